@@ -14,7 +14,8 @@ use Rattle.sarif_entries.specs.Matching.{is_empty}
 use Rattle.sarif_known.specs.declared.chosen.KnownRun.{KnownRun}
 use Rattle.sarif_known.specs.Chosen.{Chosen, all_chosen, chosen_of}
 use Rattle.sarif_known.specs.Internal.Groups.{AreApart, groups_of, side_by_side, spread, texts_of}
-use Rattle.sarif_known.specs.Order.{known_runs, once_each, runs_of_tool, tools_of}
+use Rattle.sarif_match.specs.declared.version.MatchingVersion.{MatchingVersion}
+use Rattle.sarif_known.specs.Order.{in_turn, known_runs, once_each, runs_of_tool, tools_of}
 
 -- ---- the tools
 
@@ -45,15 +46,19 @@ once_append before (x ∷ xs) ys = by_member (list_any (bytes_eq x) before) (onc
     by_member : (b : Bool) → once_each before (xs ++ ys) ≡ once_each before xs ++ once_each (before ++ once_each before xs) ys
         → once_each (before ++ x ∷ []) (xs ++ ys) ≡ once_each (before ++ x ∷ []) xs ++ once_each ((before ++ x ∷ []) ++ once_each (before ++ x ∷ []) xs) ys
         → (if b then once_each before (xs ++ ys) else x ∷ once_each (before ++ x ∷ []) (xs ++ ys))
-        ≡ (if b then once_each before xs else x ∷ once_each (before ++ x ∷ []) xs) ++ once_each (before ++ (if b then once_each before xs else x ∷ once_each (before ++ x ∷ []) xs)) ys
+        ≡ (if b then once_each before xs else x ∷ once_each (before ++ x ∷ []) xs)
+        ++ once_each (before ++ (if b then once_each before xs else x ∷ once_each (before ++ x ∷ []) xs)) ys
     by_member true there new = there
-    by_member false there new = ap (λ l. x ∷ l) (new ∙ ap (λ l. once_each (before ++ x ∷ []) xs ++ once_each l ys) (append_assoc before (x ∷ []) (once_each (before ++ x ∷ []) xs)))
+    by_member false there new =
+        ap (λ l. x ∷ l)
+        (new ∙ ap (λ l. once_each (before ++ x ∷ []) xs ++ once_each l ys) (append_assoc before (x ∷ []) (once_each (before ++ x ∷ []) xs)))
 
 once_apart : (before xs : List (List ℕ)) → AreApart before (once_each before xs)
 once_apart before [] = tt
 once_apart before (x ∷ xs) = by_member (list_any (bytes_eq x) before) refl (once_apart before xs) (once_apart (before ++ x ∷ []) xs)
   where
-    by_member : (b : Bool) → list_any (bytes_eq x) before ≡ b → AreApart before (once_each before xs) → AreApart (before ++ x ∷ []) (once_each (before ++ x ∷ []) xs)
+    by_member : (b : Bool) → list_any (bytes_eq x) before ≡ b → AreApart before (once_each before xs)
+        → AreApart (before ++ x ∷ []) (once_each (before ++ x ∷ []) xs)
         → AreApart before (if b then once_each before xs else x ∷ once_each (before ++ x ∷ []) xs)
     by_member true is there new = there
     by_member false is there new = (is, new)
@@ -106,8 +111,11 @@ module _ (run : Chosen) (some : is_empty run.records ≡ false) (rest : List Cho
   step_groups before (t ∷ tools) (g ∷ groups) apart =
       by_tool (bytes_eq run.tool t) refl (step_groups (before ++ t ∷ []) tools groups apart.1)
     where
-      by_tool : (b : Bool) → bytes_eq run.tool t ≡ b → side_by_side (spread tools run groups) (map (runs_of_tool rest) tools) ≡ side_by_side groups (map (runs_of_tool (run ∷ rest)) tools)
-          → side_by_side (if b then (g ++ run ∷ []) ∷ groups else g ∷ spread tools run groups) (map (runs_of_tool rest) (t ∷ tools)) ≡ side_by_side (g ∷ groups) (map (runs_of_tool (run ∷ rest)) (t ∷ tools))
+      by_tool : (b : Bool) → bytes_eq run.tool t ≡ b
+          → side_by_side (spread tools run groups) (map (runs_of_tool rest) tools)
+          ≡ side_by_side groups (map (runs_of_tool (run ∷ rest)) tools)
+          → side_by_side (if b then (g ++ run ∷ []) ∷ groups else g ∷ spread tools run groups) (map (runs_of_tool rest) (t ∷ tools))
+          ≡ side_by_side (g ∷ groups) (map (runs_of_tool (run ∷ rest)) (t ∷ tools))
       by_tool true is later =
           ap₂ (λ x xs. x ∷ side_by_side groups xs)
           (append_assoc g (run ∷ []) (runs_of_tool rest t) ∙ ap (λ l. g ++ l) (sym (taken_in t is)))
@@ -115,7 +123,8 @@ module _ (run : Chosen) (some : is_empty run.records ≡ false) (rest : List Cho
       by_tool false is later = ap₂ (λ x xs. x ∷ xs) (ap (λ l. g ++ l) (sym (left_out t is))) later
 
 -- an empty run is in no group
-pub step_empty : (run : Chosen) (rest : List Chosen) → is_empty run.records ≡ true → (tools : List (List ℕ)) → map (runs_of_tool rest) tools ≡ map (runs_of_tool (run ∷ rest)) tools
+pub step_empty : (run : Chosen) (rest : List Chosen) → is_empty run.records ≡ true → (tools : List (List ℕ))
+    → map (runs_of_tool rest) tools ≡ map (runs_of_tool (run ∷ rest)) tools
 step_empty run rest none [] = refl
 step_empty run rest none (t ∷ tools) = ap₂ (λ x xs. x ∷ xs) (rw none (by_and (bytes_eq run.tool t))) (step_empty run rest none tools)
   where
@@ -139,7 +148,8 @@ Keys = List (Bor (List ℕ))
 abbrev key_at : Keys → ℕ → Bor (List ℕ) → List ℕ
 key_at keys k d = (get_or keys k d).now
 
-no_key : (keys : Keys) (run : Chosen) (groups : List (List Chosen)) (d : Bor (List ℕ)) → ((k : ℕ) → k < length keys → bytes_eq run.tool (key_at keys k d) ≡ false) → length groups ≡ length keys
+no_key : (keys : Keys) (run : Chosen) (groups : List (List Chosen)) (d : Bor (List ℕ))
+    → ((k : ℕ) → k < length keys → bytes_eq run.tool (key_at keys k d) ≡ false) → length groups ≡ length keys
     → groups ≡ spread (texts_of keys) run groups
 no_key [] run groups d none same = refl
 no_key (t ∷ keys) run [] d none same = refl
@@ -147,7 +157,8 @@ no_key (t ∷ keys) run (g ∷ groups) d none same =
     rw (none 0 (omega arith)) (ap (λ l. g ∷ l) (no_key keys run groups d (λ k within. none (suc k) (omega (arith, within))) (omega (arith, same))))
 
 -- a run whose tool is none of these is not put into a group
-pub no_group : (keys : Keys) (run : Chosen) (groups : List (List Chosen)) → position (λ y. bytes_eq run.tool y.now) keys ≡ None → length groups ≡ length keys → groups ≡ spread (texts_of keys) run groups
+pub no_group : (keys : Keys) (run : Chosen) (groups : List (List Chosen)) → position (λ y. bytes_eq run.tool y.now) keys ≡ None
+    → length groups ≡ length keys → groups ≡ spread (texts_of keys) run groups
 no_group [] run groups none same = refl
 no_group (t ∷ keys) run groups none same =
     let test : Bor (List ℕ) → Bool = λ y. bytes_eq run.tool y.now in
@@ -163,7 +174,8 @@ more_chosen (r ∷ runs) run = ap (λ l. chosen_of r ∷ l) (more_chosen runs ru
 
 set_at : (keys : Keys) (run : KnownRun) (groups : List (Vec KnownRun Global)) (i : ℕ) (d : Bor (List ℕ)) (old now : Vec KnownRun Global)
     → i < length keys → bytes_eq run.tool.now (key_at keys i d) ≡ true → ((k : ℕ) → k < i → bytes_eq run.tool.now (key_at keys k d) ≡ false)
-    → length groups ≡ length keys → old ≡ get_or groups i old → now.items ≡ old.items ++ run ∷ [] → groups_of (slice_set groups i now) ≡ spread (texts_of keys) (chosen_of run) (groups_of groups)
+    → length groups ≡ length keys → old ≡ get_or groups i old → now.items ≡ old.items ++ run ∷ []
+    → groups_of (slice_set groups i now) ≡ spread (texts_of keys) (chosen_of run) (groups_of groups)
 set_at [] run groups i d old now within here before same was added = absurd (omega (arith, within))
 set_at (t ∷ keys) run [] i d old now within here before same was added = absurd (omega (arith, same))
 set_at (t ∷ keys) run (g ∷ groups) zero d old now within here before same was added =
@@ -217,7 +229,8 @@ no_items [] is = refl
 no_items (x ∷ xs) is = absurd (omega (arith, is))
 
 -- one empty group more
-pub one_empty : (groups : List (Vec KnownRun Global)) (n : ℕ) (v : Vec KnownRun Global) → groups_of groups ≡ replicate n [] → v.items ≡ [] → groups_of (groups ++ v ∷ []) ≡ replicate (n + 1) []
+pub one_empty : (groups : List (Vec KnownRun Global)) (n : ℕ) (v : Vec KnownRun Global) → groups_of groups ≡ replicate n [] → v.items ≡ []
+    → groups_of (groups ++ v ∷ []) ≡ replicate (n + 1) []
 one_empty groups n v are none =
     let next : suc n ≡ n + 1 = omega arith in
     more groups ∙ ap₂ (λ xs x. xs ++ all_chosen x ∷ []) are none ∙ longer n ∙ ap (λ k. replicate k []) next
@@ -241,15 +254,24 @@ filter_append test (x ∷ xs) ys = by_test (test x) (filter_append test xs ys)
     by_test true rest = ap (λ l. x ∷ l) rest
     by_test false rest = rest
 
-both_sides : (current baseline : List Chosen) (tools : List (List ℕ)) (n : ℕ) → n ≡ length tools
-    → side_by_side (side_by_side (replicate n []) (map (runs_of_tool current) tools)) (map (runs_of_tool baseline) tools) ≡ map (runs_of_tool (current ++ baseline)) tools
-both_sides current baseline [] zero is = refl
-both_sides current baseline [] (suc n) is = absurd (omega (arith, is))
-both_sides current baseline (t ∷ tools) zero is = absurd (omega (arith, is))
-both_sides current baseline (t ∷ tools) (suc n) is =
+both_beside : (one other : List Chosen) (tools : List (List ℕ)) (old : List (List Chosen)) → length old ≡ length tools
+    → side_by_side (side_by_side old (map (runs_of_tool one) tools)) (map (runs_of_tool other) tools)
+    ≡ side_by_side old (map (runs_of_tool (one ++ other)) tools)
+both_beside one other [] [] is = refl
+both_beside one other [] (g ∷ old) is = absurd (omega (arith, is))
+both_beside one other (t ∷ tools) [] is = absurd (omega (arith, is))
+both_beside one other (t ∷ tools) (g ∷ old) is =
     ap₂ (λ x xs. x ∷ xs)
-    (sym (filter_append (λ run. bytes_eq run.tool t && not (is_empty run.records)) current baseline))
-    (both_sides current baseline tools n (omega (arith, is)))
+    (append_assoc g (runs_of_tool one t) (runs_of_tool other t)
+    ∙ ap (λ l. g ++ l) (sym (filter_append (λ run. bytes_eq run.tool t && not (is_empty run.records)) one other)))
+    (both_beside one other tools old (omega (arith, is)))
+
+beside_none : (all : List Chosen) (tools : List (List ℕ)) (n : ℕ) → n ≡ length tools
+    → side_by_side (replicate n []) (map (runs_of_tool all) tools) ≡ map (runs_of_tool all) tools
+beside_none all [] zero is = refl
+beside_none all [] (suc n) is = absurd (omega (arith, is))
+beside_none all (t ∷ tools) zero is = absurd (omega (arith, is))
+beside_none all (t ∷ tools) (suc n) is = ap (λ l. runs_of_tool all t ∷ l) (beside_none all tools n (omega (arith, is)))
 
 flat : (f : List ℕ → List Chosen) (tools : List (List ℕ)) → flat_map (λ g. g) (map f tools) ≡ flat_map f tools
 flat f [] = refl
@@ -271,13 +293,25 @@ both_tools current baseline first tools is are =
 pub tools_apart : (runs : List Chosen) (tools : List (List ℕ)) → tools ≡ tools_of runs → AreApart [] tools
 tools_apart runs tools is = subst (AreApart []) (sym is) (once_apart [] (map (λ run. run.tool) runs))
 
--- the groups of both sides, in order, are the runs of the known log
-pub all_grouped : (current baseline : List Chosen) (tools : List (List ℕ)) (n : ℕ) (empty first groups : List (List Chosen)) → tools ≡ tools_of (baseline ++ current) → n ≡ length tools → empty ≡ replicate n []
-    → first ≡ side_by_side empty (map (runs_of_tool current) tools) → groups ≡ side_by_side first (map (runs_of_tool baseline) tools) → flat_map (λ g. g) groups ≡ known_runs current baseline
-all_grouped current baseline tools n empty first groups are count none e1 e2 =
-    ap (flat_map (λ g. g)) (e2 ∙ ap (λ l. side_by_side l (map (runs_of_tool baseline) tools)) (e1 ∙ ap (λ l. side_by_side l (map (runs_of_tool current) tools)) none) ∙ both_sides current baseline tools n count)
-    ∙ flat (runs_of_tool (current ++ baseline)) tools
-    ∙ ap (flat_map (runs_of_tool (current ++ baseline))) are
+-- adding the runs of one side and then of another is adding all of them
+pub added_both : (one other : List Chosen) (tools : List (List ℕ)) (old first groups : List (List Chosen)) → length old ≡ length tools
+    → first ≡ side_by_side old (map (runs_of_tool one) tools) → groups ≡ side_by_side first (map (runs_of_tool other) tools)
+    → groups ≡ side_by_side old (map (runs_of_tool (one ++ other)) tools)
+added_both one other tools old first groups long e1 e2 =
+    e2 ∙ ap (λ l. side_by_side l (map (runs_of_tool other) tools)) e1 ∙ both_beside one other tools old long
+
+-- the groups, in order, are the runs of the known log
+pub all_grouped : (version : MatchingVersion) (current baseline : List Chosen) (tools : List (List ℕ)) (n : ℕ) (empty groups : List (List Chosen))
+    → tools ≡ tools_of (baseline ++ current) → n ≡ length tools → empty ≡ replicate n []
+    → groups ≡ side_by_side empty (map (runs_of_tool (in_turn version current baseline)) tools)
+    → flat_map (λ g. g) groups ≡ known_runs version current baseline
+all_grouped version current baseline tools n empty groups are count none e =
+    let all = in_turn version current baseline in
+    ap (flat_map (λ g. g)) (e
+    ∙ ap (λ l. side_by_side l (map (runs_of_tool all) tools)) none
+    ∙ beside_none all tools n count)
+    ∙ flat (runs_of_tool all) tools
+    ∙ ap (flat_map (runs_of_tool all)) are
 
 pub texts_count : (keys : Keys) → length (texts_of keys) ≡ length keys
 texts_count [] = refl
@@ -290,5 +324,6 @@ pub order_tools : (current baseline now before : List KnownRun) (t0 t1 t2 : Keys
     → texts_of t2 ≡ tools_of (all_chosen baseline ++ all_chosen current)
 order_tools current baseline now before t0 t1 t2 none same too e1 e2 =
     both_tools (all_chosen current) (all_chosen baseline) (texts_of t1) (texts_of t2)
-    (e1 ∙ ap (λ l. texts_of l ++ once_each (texts_of l) (map (λ run. run.tool) (all_chosen before))) none ∙ ap (λ rs. once_each [] (map (λ run. run.tool) (all_chosen rs))) same)
+    (e1 ∙ ap (λ l. texts_of l ++ once_each (texts_of l) (map (λ run. run.tool) (all_chosen before))) none
+    ∙ ap (λ rs. once_each [] (map (λ run. run.tool) (all_chosen rs))) same)
     (e2 ∙ ap (λ rs. texts_of t1 ++ once_each (texts_of t1) (map (λ run. run.tool) (all_chosen rs))) too)

@@ -8,17 +8,12 @@ use Rattle.sarif_entries.specs.File.{File}
 use Rattle.sarif_suppress.specs.Suppressing.{is_suppressed, lasting}
 use Rattle.sarif_accept.specs.Adding.{may_hit}
 use Rattle.sarif_known.specs.JustKnown.{IsSuppressedForNow, IsNewAndStops, StaysOut}
-use Rattle.sarif_known.specs.Selected.{is_left_out, is_new, keep_unless, known_of}
+use Rattle.sarif_known.specs.Selected.{is_left_out, is_new, keep_unless, known_of, may_be_new}
+use Rattle.sarif_known.specs.declared.standing.Standing.{Standing}
 
 or_true : (b : Bool) → (b || true) ≡ true
 or_true true = refl
 or_true false = refl
-
-new_is : (state : State) → is_new state ≡ true → state ≡ New
-new_is New is = refl
-new_is Unchanged is = absurd (true≢false (sym is))
-new_is Updated is = absurd (true≢false (sym is))
-new_is Absent is = absurd (true≢false (sym is))
 
 -- each side, with booleans instead of its tests
 out_if : (now later adopt fresh hit : Bool) → ((now ≡ true) × (later ≡ false)) ⊎ ((adopt ≡ false) × (fresh ≡ true) × ((now ≡ true) ⊎ (hit ≡ true)))
@@ -38,22 +33,37 @@ in_if false later false false hit none = refl
 in_if false later false true true none = absurd (none (inr (refl, refl, inr refl)))
 in_if false later false true false none = refl
 
-module _ (file : File) (policy : Policy) (adopt : Bool) (r : Record) (state : State) where
-  left_out : StaysOut file policy adopt r state → is_left_out file policy adopt r state ≡ true
-  left_out (inl why) = out_if (is_suppressed file r) (is_suppressed (lasting file) r) adopt (is_new state) (may_hit policy r state) (inl (why.now, why.later))
-  left_out (inr why) = out_if (is_suppressed file r) (is_suppressed (lasting file) r) adopt (is_new state) (may_hit policy r state) (inr (why.adopted, ap is_new why.fresh, why.stops))
+may_be : (s : Standing) → (s.state ≡ New) ⊎ (s.doubtful ≡ true) → may_be_new s ≡ true
+may_be s (inl fresh) = ap (λ state. is_new state || s.doubtful) fresh
+may_be s (inr doubtful) = ap (λ b. is_new s.state || b) doubtful ∙ or_true (is_new s.state)
 
-  taken : (StaysOut file policy adopt r state → ⊥) → is_left_out file policy adopt r state ≡ false
-  taken none = in_if (is_suppressed file r) (is_suppressed (lasting file) r) adopt (is_new state) (may_hit policy r state) by
+new_or : (state : State) (doubtful : Bool) → (is_new state || doubtful) ≡ true → (state ≡ New) ⊎ (doubtful ≡ true)
+new_or New doubtful is = inl refl
+new_or Unchanged doubtful is = inr is
+new_or Updated doubtful is = inr is
+new_or Absent doubtful is = inr is
+
+module _ (file : File) (policy : Policy) (adopt : Bool) (r : Record) (s : Standing) where
+  left_out : StaysOut file policy adopt r s → is_left_out file policy adopt r s ≡ true
+  left_out (inl why) =
+      out_if (is_suppressed file r) (is_suppressed (lasting file) r) adopt (may_be_new s) (may_hit policy r s.state) (inl (why.now, why.later))
+  left_out (inr why) = out_if (is_suppressed file r) (is_suppressed (lasting file) r) adopt (may_be_new s) (may_hit policy r s.state)
+      (inr (why.adopted, may_be s why.fresh, why.stops))
+
+  taken : (StaysOut file policy adopt r s → ⊥) → is_left_out file policy adopt r s ≡ false
+  taken none = in_if (is_suppressed file r) (is_suppressed (lasting file) r) adopt (may_be_new s) (may_hit policy r s.state) by
     where
-      by : ((is_suppressed file r ≡ true) × (is_suppressed (lasting file) r ≡ false)) ⊎ ((adopt ≡ false) × (is_new state ≡ true) × ((is_suppressed file r ≡ true) ⊎ (may_hit policy r state ≡ true))) → ⊥
+      by : ((is_suppressed file r ≡ true) × (is_suppressed (lasting file) r ≡ false)) ⊎
+          ((adopt ≡ false) × (may_be_new s ≡ true) × ((is_suppressed file r ≡ true) ⊎ (may_hit policy r s.state ≡ true))) → ⊥
       by (inl (now, later)) = none (inl (record { now = now; later = later }))
-      by (inr (adopted, fresh, stops)) = none (inr (record { adopted = adopted; fresh = new_is state fresh; stops = stops }))
+      by (inr (adopted, fresh, stops)) = none (inr (record { adopted = adopted; fresh = new_or s.state s.doubtful fresh; stops = stops }))
 
-pub not_known : (file : File) (policy : Policy) (adopt : Bool) (r : Record) (rs : List Record) (state : State) (states : List State)
-    → StaysOut file policy adopt r state → known_of file policy adopt (r ∷ rs) (state ∷ states) ≡ known_of file policy adopt rs states
-not_known file policy adopt r rs state states out = ap (λ b. keep_unless b r (known_of file policy adopt rs states)) (left_out file policy adopt r state out)
+pub not_known : (file : File) (policy : Policy) (adopt : Bool) (r : Record) (rs : List Record) (s : Standing) (standings : List Standing)
+    → StaysOut file policy adopt r s → known_of file policy adopt (r ∷ rs) (s ∷ standings) ≡ known_of file policy adopt rs standings
+not_known file policy adopt r rs s standings out =
+    ap (λ b. keep_unless b r (known_of file policy adopt rs standings)) (left_out file policy adopt r s out)
 
-pub becomes_known : (file : File) (policy : Policy) (adopt : Bool) (r : Record) (rs : List Record) (state : State) (states : List State)
-    → (StaysOut file policy adopt r state → ⊥) → known_of file policy adopt (r ∷ rs) (state ∷ states) ≡ r ∷ known_of file policy adopt rs states
-becomes_known file policy adopt r rs state states none = ap (λ b. keep_unless b r (known_of file policy adopt rs states)) (taken file policy adopt r state none)
+pub becomes_known : (file : File) (policy : Policy) (adopt : Bool) (r : Record) (rs : List Record) (s : Standing) (standings : List Standing)
+    → (StaysOut file policy adopt r s → ⊥) → known_of file policy adopt (r ∷ rs) (s ∷ standings) ≡ r ∷ known_of file policy adopt rs standings
+becomes_known file policy adopt r rs s standings none =
+    ap (λ b. keep_unless b r (known_of file policy adopt rs standings)) (taken file policy adopt r s none)

@@ -1,5 +1,5 @@
 -- The members of a known result are read as they were written.
-use Rattle.std.proofs.Common.{◌≡◌, ℕ, ◌<◌, ◌^◌, true, false, List, [], ◌∷◌, map, Option, Some, None, option_map, codes, refl, ap, arith}
+use Rattle.std.proofs.Common.{◌≡◌, ℕ, ◌<◌, ◌^◌, Bool, true, false, List, [], ◌∷◌, map, Option, Some, None, option_map, codes, refl, ap, arith}
 use Rattle.std.specs.Prelude.{Ok, option_and_then, unwrap_or, IfSome, nat_lt}
 use Rattle.std.proofs.lemmas.Bool.Decides.{nat_tests}
 use Rattle.serde_json.specs.Data.{string}
@@ -20,6 +20,7 @@ use Rattle.sarif_model.specs.Suppression.{status_of}
 use Rattle.sarif_model.proofs.Elements.{items_back}
 use Rattle.sarif_model.proofs.Guids.{guid_back}
 use Rattle.sarif_members.specs.OwnMembers.{check_present, as_kind, own_kind, as_level, own_level, as_guid, own_guid, own_fingerprints, own_statuses, text_of, own_message, own_rule_id, own_message_and_rule, own_indexes, own_location, parts_of}
+use Rattle.sarif_members.specs.Regions.{own_region}
 use Rattle.std.specs.Option.{option_or}
 use Rattle.sarif_model.specs.Guid.{guid_text}
 use Rattle.sarif_model.specs.Written.{text_members, list_if_any}
@@ -64,8 +65,8 @@ known_parts r artifact = record {
   full = r.full;
   partial = r.partial;
   held = r.held;
-  region = None;
-  snippet = None;
+  region = r.region;
+  snippet = r.snippet;
 }
 
 kind_back : (kind : Kind) → result_map (λ k. unwrap_or k Fail) (of_kind BadKind as_kind (option_and_then unless_null (kind_unless_fail kind))) ≡ Ok kind
@@ -87,7 +88,8 @@ level_back Fail Note = refl
 level_back Fail Warning = refl
 level_back Fail Error = refl
 
-some_guid_back : (o : Option ℕ) → IfSome o (λ guid. guid < 2 ^ 128) → of_kind BadGuid as_guid (option_and_then unless_null (option_map (λ n. string (guid_text n)) o)) ≡ Ok o
+some_guid_back : (o : Option ℕ) → IfSome o (λ guid. guid < 2 ^ 128)
+    → of_kind BadGuid as_guid (option_and_then unless_null (option_map (λ n. string (guid_text n)) o)) ≡ Ok o
 some_guid_back None fits = refl
 some_guid_back (Some guid) fits = ap (or_wrong BadGuid) (guid_back guid fits)
 
@@ -112,7 +114,10 @@ statuses_each : (held : List Status) → read_each status_of (map suppression_fo
 statuses_each [] = refl
 statuses_each (s ∷ ss) = rw (status_back s, statuses_each ss) refl
 
-statuses_back : (held : List Status) → ((elements_of (of_kind BadSuppression as_array (option_and_then unless_null (list_if_any (map suppression_for held)))) >>= if_objects BadSuppression) >>= read_each status_of) ≡ Ok held
+statuses_back : (held : List Status)
+    →
+    ((elements_of (of_kind BadSuppression as_array (option_and_then unless_null (list_if_any (map suppression_for held)))) >>= if_objects
+    BadSuppression) >>= read_each status_of) ≡ Ok held
 statuses_back [] = refl
 statuses_back (s ∷ ss) = rw (items_back (map suppression_for ss), all_objects ss) (statuses_each (s ∷ ss))
 
@@ -120,7 +125,9 @@ texts_each : (texts : List (List ℕ)) → read_each text_of (map string texts) 
 texts_each [] = refl
 texts_each (t ∷ ts) = rw (texts_each ts) refl
 
-texts_back : (texts : List (List ℕ)) → (elements_of (of_kind BadMember as_array (option_and_then unless_null (list_if_any (map string texts)))) >>= read_each text_of) ≡ Ok texts
+texts_back : (texts : List (List ℕ))
+    → (elements_of (of_kind BadMember as_array (option_and_then unless_null (list_if_any (map string texts)))) >>= read_each text_of)
+    ≡ Ok texts
 texts_back [] = refl
 texts_back (t ∷ ts) = rw (items_back (map string ts)) (texts_each (t ∷ ts))
 
@@ -161,7 +168,16 @@ module _ (r : Record) (artifact : Option ℕ) where
 
   message_is : own_message (known_result r artifact) ≡ Ok r.message
   unfolding own_message
-  message_is = rw (at (codes "message"), at_message (codes "text"), at_message (codes "id"), at_message (codes "arguments"), text_back BadMember r.message.text, text_back BadMember r.message.id, texts_back r.message.args) refl
+  message_is =
+      rw (
+        at (codes "message"),
+        at_message (codes "text"),
+        at_message (codes "id"),
+        at_message (codes "arguments"),
+        text_back BadMember r.message.text,
+        text_back BadMember r.message.id,
+        texts_back r.message.args,
+      ) refl
 
   rule_is : own_rule_id (known_result r artifact) ≡ Ok (none_if_empty r.rule_id)
   unfolding own_rule_id
@@ -181,20 +197,38 @@ small n fits = grind (arith, nat_tests)
 small_index : (n : ℕ) → n < 2 ^ 32 → nat_lt n (2 ^ 32) ≡ true
 small_index n fits = grind (arith, nat_tests)
 
-location_at : (r : Record) (uri base : Option (List ℕ)) → r.place.uri ≡ uri → r.place.base ≡ base → own_location (known_result r None) ≡ Ok (record { uri = r.place.uri; base = if_uri r.place.uri r.place.base; artifact = None })
+location_at : (r : Record) (uri base : Option (List ℕ)) → r.place.uri ≡ uri → r.place.base ≡ base
+    → own_location (known_result r None) ≡ Ok (record { uri = r.place.uri; base = if_uri r.place.uri r.place.base; artifact = None })
 unfolding own_location
 location_at r None base has based = rw (at r None (codes "locations"), has) refl
 location_at r (Some uri) None has based = rw (at r None (codes "locations"), has, based) refl
 location_at r (Some uri) (Some base) has based = rw (at r None (codes "locations"), has, based) refl
 
-location_is : (r : Record) (artifact : Option ℕ) → IfSome artifact (λ n. n < 2 ^ 32) → own_location (known_result r artifact) ≡ Ok (record { uri = uri_read r.place artifact; base = base_read r.place artifact; artifact = artifact })
+location_is : (r : Record) (artifact : Option ℕ) → IfSome artifact (λ n. n < 2 ^ 32)
+    → own_location (known_result r artifact)
+    ≡ Ok (record { uri = uri_read r.place artifact; base = base_read r.place artifact; artifact = artifact })
 unfolding own_location
 location_is r (Some n) fits = rw (at r (Some n) (codes "locations"), small n fits, small_index n fits) refl
 location_is r None fits = location_at r r.place.uri r.place.base refl refl
 
 module _ (r : Record) (artifact : Option ℕ) where
   -- the members of a known result are those of the record that it was written from
-  pub parts_is : IfSome r.guid (λ guid. guid < 2 ^ 128) → IfSome artifact (λ n. n < 2 ^ 32) → parts_of false (known_result r artifact) ≡ Ok (known_parts r artifact)
+  pub parts_is : (regions : Bool) → IfSome r.guid (λ guid. guid < 2 ^ 128) → IfSome artifact (λ n. n < 2 ^ 32)
+      → (own_region regions (known_result r artifact)).region ≡ r.region
+      → (own_region regions (known_result r artifact)).snippet ≡ r.snippet
+      → parts_of regions (known_result r artifact) ≡ Ok (known_parts r artifact)
   unfolding parts_of
-  parts_is fits index =
-      rw (present_is r artifact, kind_is r artifact, level_is r artifact, guid_is r artifact fits, fingerprints_is r artifact, statuses_is r artifact, message_and_rule_is r artifact, indexes_is r artifact, location_is r artifact index) refl
+  parts_is regions fits index region_here snippet_here =
+      rw (
+        present_is r artifact,
+        kind_is r artifact,
+        level_is r artifact,
+        guid_is r artifact fits,
+        fingerprints_is r artifact,
+        statuses_is r artifact,
+        message_and_rule_is r artifact,
+        indexes_is r artifact,
+        location_is r artifact index,
+        region_here,
+        snippet_here,
+      ) refl

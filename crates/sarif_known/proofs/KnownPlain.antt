@@ -13,14 +13,16 @@ use Rattle.sarif_model.specs.declared.kinds.Level.{Level}
 use Rattle.sarif_model.specs.declared.kinds.Status.{Status}
 use Rattle.sarif_model.specs.declared.message.Message.{Message}
 use Rattle.sarif_model.specs.declared.record.Record.{Record}
+use Rattle.sarif_model.specs.declared.region.Region.{Region}
 use Rattle.sarif_model.specs.Limits.{most_results}
 use Rattle.sarif_known.specs.Chosen.{Chosen, results_among}
 use Rattle.sarif_known.specs.KnownLog.{known_log}
 use Rattle.sarif_model.specs.Written.{Row, list_if_any, text_members}
 use Rattle.sarif_model.specs.Guid.{guid_text}
-use Rattle.sarif_known.specs.KnownResult.{kind_unless_fail, known_result, level_if_fail, locations_for, members_from, message_rows, object_from, one_location, result_rows, suppression_for, texts_if_any, unless_empty, uri_rows}
+use Rattle.sarif_known.specs.KnownResult.{kind_unless_fail, known_result, level_if_fail, locations_for, members_from, message_rows, number_if, object_from, one_location, physical_rows, region_for, region_rows, result_rows, snippet_for, suppression_for, texts_if_any, unless_empty, uri_rows}
 use Rattle.sarif_known.specs.KnownRun.{artifact_at, base_alone, bases_alone, known_run, next_number, results_from, run_rows}
-use Rattle.sarif_known.specs.Laws.{IsOfTool, IsReadable}
+use Rattle.sarif_runs.specs.declared.run_options.RecordOptions.{RecordOptions}
+use Rattle.sarif_known.specs.Laws.{IsOfTool, IsPosition, IsReadable, IsRegion}
 use Rattle.sarif_known.proofs.Plain.{IsPlain, AreItemsPlain, AreMembersPlain}
 
 -- ---- rows whose names rise
@@ -121,16 +123,40 @@ message_plain m =
     rows_plain (message_rows m) refl
     (list_if_plain (map string m.args) (each_plain string (λ _. tt) m.args), (text_if_plain (λ t. t) m.id, (text_if_plain (λ t. t) m.text, tt)))
 
-location_plain : (ms : Members) → AreMembersPlain ms → IsPlain (one_location ms)
-location_plain ms plain = ((tt, (tt, plain, tt), tt), tt)
+number_plain : (o : Option ℕ) → IfSome o IsPosition → IfPlain (number_if o)
+number_plain None small = tt
+number_plain (Some n) small = let last = small.last in omega (arith, last)
 
-place_plain : (uri base : Option (List ℕ)) (artifact : Option ℕ) → IfSome artifact (λ n. n < 2 ^ 32) → IfPlain (locations_for (record { uri = uri; base = base }) artifact)
-place_plain uri base (Some n) small = location_plain (member (codes "index") (number (unsigned n)) no_members) (tt, omega (arith, small), tt)
-place_plain None base None small = tt
-place_plain (Some uri) base None small = location_plain (members_from (uri_rows uri base)) (rows_plain (uri_rows uri base) refl (tt, (text_if_plain (λ t. t) base, tt)))
+snippet_plain : (o : Option (List ℕ)) → IfPlain (option_map snippet_for o)
+snippet_plain None = tt
+snippet_plain (Some text) = (tt, tt, tt)
 
-result_plain : (r : Record) (artifact : Option ℕ) → IsReadable r → IfSome artifact (λ n. n < 2 ^ 32) → IsPlain (known_result r artifact)
-result_plain r artifact readable small =
+region_plain : (region : Option Region) (snippet : Option (List ℕ)) → IfSome region IsRegion → IfPlain (region_for region snippet)
+region_plain None None is = tt
+region_plain None (Some text) is =
+    rows_plain (region_rows None (Some text)) refl (tt, (tt, (snippet_plain (Some text), (tt, (tt, tt)))))
+region_plain (Some r) snippet is =
+    rows_plain (region_rows (Some r) snippet) refl (
+      number_plain r.end_column is.end_column,
+      (
+        number_plain r.end_line is.end_line,
+        (snippet_plain snippet, (number_plain r.start_column is.start_column, (number_plain (Some r.start_line) is.start_line, tt))),
+      ),
+    )
+
+location_plain : (ms : Members) (region : Option Data) → AreMembersPlain ms → IfPlain region → IsPlain (one_location ms region)
+location_plain ms region plain of_region = ((tt, rows_plain (physical_rows ms region) refl (plain, (of_region, tt)), tt), tt)
+
+place_plain : (uri base : Option (List ℕ)) (region : Option Data) (artifact : Option ℕ) → IfSome artifact (λ n. n < 2 ^ 32) → IfPlain region
+    → IfPlain (locations_for (record { uri = uri; base = base }) region artifact)
+place_plain uri base region (Some n) small of_region =
+    location_plain (member (codes "index") (number (unsigned n)) no_members) region (tt, omega (arith, small), tt) of_region
+place_plain None base region None small of_region = tt
+place_plain (Some uri) base region None small of_region =
+    location_plain (members_from (uri_rows uri base)) region (rows_plain (uri_rows uri base) refl (tt, (text_if_plain (λ t. t) base, tt))) of_region
+
+result_plain : (options : RecordOptions) (r : Record) (artifact : Option ℕ) → IsReadable options r → IfSome artifact (λ n. n < 2 ^ 32) → IsPlain (known_result r artifact)
+result_plain options r artifact readable small =
     rows_plain (result_rows r artifact) refl (
       text_if_plain guid_text r.guid,
       (
@@ -140,8 +166,15 @@ result_plain r artifact readable small =
           (
             level_plain r.kind r.level,
             (
-              place_plain r.place.uri r.place.base artifact small,
-              (message_plain r.message, (texts_if_plain r.partial readable.partial, (id_plain r.rule_id, (list_if_plain (map suppression_for r.held) (each_plain suppression_for suppression_plain r.held), tt)))),
+              place_plain r.place.uri r.place.base (region_for r.region r.snippet) artifact small
+                  (region_plain r.region r.snippet readable.region),
+              (
+                message_plain r.message,
+                (
+                  texts_if_plain r.partial readable.partial,
+                  (id_plain r.rule_id, (list_if_plain (map suppression_for r.held) (each_plain suppression_for suppression_plain r.held), tt)),
+                ),
+              ),
             ),
           ),
         ),
@@ -158,27 +191,30 @@ pub next_small : (n : ℕ) (o : Option (List ℕ)) (left : ℕ) → n + suc left
 next_small n None left few = omega (arith, few)
 next_small n (Some base) left few = omega (arith, few)
 
-results_plain : (tool : List ℕ) (n : ℕ) (rs : List Record) → AllByRecursion (IsOfTool tool) rs → n + length rs ≤ most_results → AllByRecursion IsPlain (results_from n rs)
-results_plain tool n [] all few = tt
-results_plain tool n (r ∷ rs) all few = (
-  result_plain r (option_map (λ _. n) (base_alone r)) all.0.readable (number_small n (base_alone r) (omega (arith, few))),
-  results_plain tool (next_number n (base_alone r)) rs all.1 (next_small n (base_alone r) (length rs) few),
+results_plain : (options : RecordOptions) (tool : List ℕ) (n : ℕ) (rs : List Record) → AllByRecursion (IsOfTool options tool) rs → n + length rs ≤ most_results
+    → AllByRecursion IsPlain (results_from n rs)
+results_plain options tool n [] all few = tt
+results_plain options tool n (r ∷ rs) all few = (
+  result_plain options r (option_map (λ _. n) (base_alone r)) all.0.readable (number_small n (base_alone r) (omega (arith, few))),
+  results_plain options tool (next_number n (base_alone r)) rs all.1 (next_small n (base_alone r) (length rs) few),
 )
 
 artifact_plain : (base : List ℕ) → IsPlain (artifact_at base)
 artifact_plain base = (tt, (tt, tt, tt), tt)
 
-run_plain : (run : Chosen) → AllByRecursion (IsOfTool run.tool) run.records → length run.records ≤ most_results → IsPlain (known_run run)
-run_plain run all few =
+run_plain : (options : RecordOptions) (run : Chosen) → AllByRecursion (IsOfTool options run.tool) run.records → length run.records ≤ most_results → IsPlain (known_run run)
+run_plain options run all few =
     rows_plain (run_rows run) refl (
       list_if_plain (map artifact_at (bases_alone run.records)) (each_plain artifact_at artifact_plain (bases_alone run.records)),
-      (list_plain (results_from 0 run.records) (results_plain run.tool 0 run.records all (omega (arith, few))), ((tt, (tt, tt, tt), tt), tt)),
+      (list_plain (results_from 0 run.records) (results_plain options run.tool 0 run.records all (omega (arith, few))), ((tt, (tt, tt, tt), tt), tt)),
     )
 
-runs_plain : (runs : List Chosen) → AllByRecursion (λ run. AllByRecursion (IsOfTool run.tool) run.records) runs → results_among runs ≤ most_results → AllByRecursion IsPlain (map known_run runs)
-runs_plain [] all few = tt
-runs_plain (run ∷ runs) all few = (run_plain run all.0 (omega (arith, few)), runs_plain runs all.1 (omega (arith, few)))
+runs_plain : (options : RecordOptions) (runs : List Chosen) → AllByRecursion (λ run. AllByRecursion (IsOfTool options run.tool) run.records) runs
+    → results_among runs ≤ most_results → AllByRecursion IsPlain (map known_run runs)
+runs_plain options [] all few = tt
+runs_plain options (run ∷ runs) all few = (run_plain options run all.0 (omega (arith, few)), runs_plain options runs all.1 (omega (arith, few)))
 
 -- the known log is plain
-pub log_plain : (runs : List Chosen) → AllByRecursion (λ run. AllByRecursion (IsOfTool run.tool) run.records) runs → results_among runs ≤ most_results → IsPlain (known_log runs)
-log_plain runs all few = ((refl, tt), list_plain (map known_run runs) (runs_plain runs all few), (tt, tt, tt))
+pub log_plain : (options : RecordOptions) (runs : List Chosen) → AllByRecursion (λ run. AllByRecursion (IsOfTool options run.tool) run.records) runs
+    → results_among runs ≤ most_results → IsPlain (known_log runs)
+log_plain options runs all few = ((refl, tt), list_plain (map known_run runs) (runs_plain options runs all few), (tt, tt, tt))

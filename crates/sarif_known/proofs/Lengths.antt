@@ -17,7 +17,8 @@ some_bytes false false p q r hp hq hr = hr
 one_at_least : (x : ℕ) → 1 ≤ length (escape_byte x)
 unfolding escape_byte
 one_at_least x =
-    some_bytes (nat_lt 0 (escape_letter x)) (nat_lt x 32) (92 ∷ escape_letter x ∷ []) (92 ∷ 117 ∷ 48 ∷ 48 ∷ digit_char (x / 16) ∷ digit_char (x % 16) ∷ []) (x ∷ [])
+    some_bytes (nat_lt 0 (escape_letter x)) (nat_lt x 32) (92 ∷ escape_letter x ∷ [])
+    (92 ∷ 117 ∷ 48 ∷ 48 ∷ digit_char (x / 16) ∷ digit_char (x % 16) ∷ []) (x ∷ [])
     (omega arith) (omega arith) (omega arith)
 
 -- a string is shorter than its text
@@ -38,7 +39,8 @@ pub pretty_from-append : (s : Last × ℕ) (ts us : List Token) → pretty_from 
 unfolding pretty_from
 pretty_from-append s [] us = refl
 pretty_from-append s (t ∷ ts) us =
-    ap (λ l. piece s t ++ l) (pretty_from-append (step s t) ts us) ∙ sym (append_assoc (piece s t) (pretty_from (step s t) ts) (pretty_from (fold step (step s t) ts) us))
+    ap (λ l. piece s t ++ l) (pretty_from-append (step s t) ts us)
+    ∙ sym (append_assoc (piece s t) (pretty_from (step s t) ts) (pretty_from (fold step (step s t) ts) us))
 
 behind_both : (a b c : List ℕ) → length c ≤ length (a ++ (b ++ c))
 behind_both a b c =
@@ -86,7 +88,8 @@ pushed [] t = omega arith
 pushed (u ∷ ts) t = let more = pushed ts t in omega (arith, more)
 
 -- one token more
-pub one_more : (ts : List Token) (t : Token) (n : ℕ) → n ≡ min (least_bytes ts) (2 ^ 64 - 1) → min (n + own_bytes t) (2 ^ 64 - 1) ≡ min (least_bytes (ts ++ t ∷ [])) (2 ^ 64 - 1)
+pub one_more : (ts : List Token) (t : Token) (n : ℕ) → n ≡ min (least_bytes ts) (2 ^ 64 - 1)
+    → min (n + own_bytes t) (2 ^ 64 - 1) ≡ min (least_bytes (ts ++ t ∷ [])) (2 ^ 64 - 1)
 one_more ts t n is =
     let more = pushed ts t in
     omega (arith, more, is)

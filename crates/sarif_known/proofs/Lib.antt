@@ -5,10 +5,13 @@ pub mod KnownPlain
 pub mod Lengths
 pub mod LogBack
 pub mod Lost
+pub mod NamesKept
 pub mod Outlines
 pub mod Plain
 pub mod Readable
 pub mod RecordBack
+pub mod RegionBack
+pub mod RegionRead
 pub mod Rising
 pub mod Rows
 pub mod RunBack

@@ -16,6 +16,7 @@ use Rattle.sarif_read.specs.Reading.{check_each, check_external, check_log, chec
 use Rattle.sarif_known.specs.Chosen.{Chosen, results_among}
 use Rattle.sarif_known.specs.KnownLog.{known_log, pretty_text}
 use Rattle.sarif_known.specs.KnownRun.{base_alone, known_run, next_number, results_from}
+use Rattle.sarif_runs.specs.declared.run_options.RecordOptions.{RecordOptions}
 use Rattle.sarif_known.specs.Laws.{CanBeRead}
 use Rattle.sarif_known.specs.Internal.Tokens.{data_tokens}
 use Rattle.sarif_model.proofs.Elements.{items_back}
@@ -33,13 +34,16 @@ unfolding pretty_from
 begins_brace runs = (_, refl)
 
 -- the text with its newline is read as the log
-pub text_read : (runs : List Chosen) (text : List ℕ) → CanBeRead runs → text ≡ pretty_text (known_log runs) → tokens text ≡ data_tokens (known_log runs) → IsUtf8 (text ++ 10 ∷ [])
+pub text_read : (options : RecordOptions) (runs : List Chosen) (text : List ℕ) → CanBeRead options runs → text ≡ pretty_text (known_log runs)
+    → tokens text ≡ data_tokens (known_log runs) → IsUtf8 (text ++ 10 ∷ [])
     → json_of (without_mark (text ++ 10 ∷ [])) ≡ Some (known_log runs)
-text_read runs text can is are utf8 =
+text_read options runs text can is are utf8 =
     let begins = begins_brace runs in
     let opens : text ≡ 123 ∷ begins.0 = is ∙ begins.1 in
-    let bare : without_mark (text ++ 10 ∷ []) ≡ text ++ 10 ∷ [] = ap (λ l. without_mark (l ++ 10 ∷ [])) opens ∙ without_brace (begins.0 ++ 10 ∷ []) ∙ sym (ap (λ l. l ++ 10 ∷ []) opens) in
-    ap json_of bare ∙ rw (is_utf8-from_IsUtf8 (text ++ 10 ∷ []) utf8) (read_line text ∙ plain_read (known_log runs) text (log_plain runs can.each can.few_results) (log_within runs) are)
+    let bare : without_mark (text ++ 10 ∷ []) ≡ text ++ 10 ∷ [] = ap (λ l. without_mark (l ++ 10 ∷ [])) opens
+    ∙ without_brace (begins.0 ++ 10 ∷ []) ∙ sym (ap (λ l. l ++ 10 ∷ []) opens) in
+    ap json_of bare ∙ rw (is_utf8-from_IsUtf8 (text ++ 10 ∷ []) utf8)
+    (read_line text ∙ plain_read (known_log runs) text (log_plain options runs can.each can.few_results) (log_within runs) are)
 
 -- ---- its runs
 
@@ -73,7 +77,8 @@ module _ (allow : Bool) (run : Chosen) where
   unfolding check_run
   run_is before few = rw (tool_is, external_is, results_is) (count_fits before few)
 
-each_is : (allow : Bool) (n before : ℕ) (runs : List Chosen) → before + results_among runs ≤ most_results → check_each allow n before (map known_run runs) ≡ Ok tt
+each_is : (allow : Bool) (n before : ℕ) (runs : List Chosen) → before + results_among runs ≤ most_results
+    → check_each allow n before (map known_run runs) ≡ Ok tt
 unfolding check_each
 each_is allow n before [] few = refl
 each_is allow n before (run ∷ runs) few =
@@ -90,12 +95,14 @@ form_is : (runs : List Chosen) → length runs ≤ most_runs → check_log (know
 unfolding check_log
 form_is runs few = rw (runs_are runs, count_runs runs, few_enough (length runs) most_runs few) refl
 
-value_is : (allow : Bool) (runs : List Chosen) → length runs ≤ most_runs → results_among runs ≤ most_results → log_of_value allow (known_log runs) ≡ Ok (map known_run runs)
+value_is : (allow : Bool) (runs : List Chosen) → length runs ≤ most_runs → results_among runs ≤ most_results
+    → log_of_value allow (known_log runs) ≡ Ok (map known_run runs)
 unfolding log_of_value
 value_is allow runs few few_results = rw (form_is runs few, runs_are runs, each_is allow 0 0 runs (omega (arith, few_results))) refl
 
 -- from bytes that are the JSON of the known log, its runs are read without an error
-pub log_back : (allow : Bool) (runs : List Chosen) (text : List ℕ) → CanBeRead runs → json_of (without_mark text) ≡ Some (known_log runs) → log_of allow text ≡ Ok (map known_run runs)
+pub log_back : (options : RecordOptions) (allow : Bool) (runs : List Chosen) (text : List ℕ) → CanBeRead options runs → json_of (without_mark text) ≡ Some (known_log runs)
+    → log_of allow text ≡ Ok (map known_run runs)
 unfolding log_of
-log_back allow runs text can is =
-    rw (is, plain_stripped (known_log runs) (log_plain runs can.each can.few_results)) (value_is allow runs can.few_runs can.few_results)
+log_back options allow runs text can is =
+    rw (is, plain_stripped (known_log runs) (log_plain options runs can.each can.few_results)) (value_is allow runs can.few_runs can.few_results)

@@ -8,7 +8,8 @@ use Rattle.sarif_known.specs.KnownLog.{too_long, IsLost}
 use Rattle.sarif_known.proofs.Lengths.{longer}
 
 -- if the first tokens are too long as JSON, all tokens are
-pub front_lost : (front rest whole : List Token) (fault : MergeFault) → front ++ rest ≡ whole → fault ≡ too_long → most_bytes < length (pretty front) → IsLost (pretty whole) fault
+pub front_lost : (front rest whole : List Token) (fault : MergeFault) → front ++ rest ≡ whole → fault ≡ too_long
+    → most_bytes < length (pretty front) → IsLost (pretty whole) fault
 front_lost front rest whole fault is why long = inr (why, longer most_bytes front rest whole is long)
 
 -- if the JSON of the first tokens is lost, all of it is

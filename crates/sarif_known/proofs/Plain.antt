@@ -96,5 +96,6 @@ mutual
 pub plain_read : (d : Data) (text : List ℕ) → IsPlain d → depth d ≤ max_depth → tokens text ≡ tree.json_tokens (outline d) → read text ≡ Some d
 plain_read d text plain shallow are =
     let deep : tree.depth (outline d) ≤ max_depth = subst (λ n. n ≤ max_depth) (sym (outline_depth d)) shallow in
-    let found : json.value max_depth (tokens text) ≡ Some (outline d, []) = ap (json.value max_depth) (are ∙ sym (append-nil (tree.json_tokens (outline d)))) ∙ value-json_tokens (outline d) max_depth [] deep in
+    let found : json.value max_depth (tokens text) ≡ Some (outline d, []) =
+    ap (json.value max_depth) (are ∙ sym (append-nil (tree.json_tokens (outline d)))) ∙ value-json_tokens (outline d) max_depth [] deep in
     ap (λ o. option_and_then of_json (option_and_then (λ p. json.if_last p.0 p.1) o)) found ∙ plain_back d plain

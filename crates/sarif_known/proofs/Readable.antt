@@ -30,10 +30,13 @@ use Rattle.sarif_members.specs.Regions.{own_region}
 use Rattle.sarif_runs.specs.Record.{if_placed, record_by, record_in, record_of}
 use Rattle.sarif_model.specs.Written.{text_members}
 use Rattle.sarif_model.specs.Driver.{tool_name}
-use Rattle.sarif_known.specs.Laws.{IsOfTool}
+use Rattle.sarif_runs.specs.declared.run_options.RecordOptions.{RecordOptions}
+use Rattle.sarif_known.specs.Laws.{IsOfTool, IsRegion}
 use Rattle.sarif_accept.proofs.GivenFile.{json_ordered}
 use Rattle.sarif_accept.proofs.GuidFits.{guid_fits}
-use Rattle.sarif_known.proofs.RecordBack.{none_placed}
+use Rattle.sarif_known.proofs.NamesKept.{kept_twice, ordered_kept}
+use Rattle.sarif_known.proofs.RecordBack.{none_placed, placed_twice}
+use Rattle.sarif_known.proofs.RegionRead.{IsFilled, placed_too, region_read, snippet_read}
 use Rattle.sarif_known.proofs.Rising.{rises}
 
 -- both steps went well
@@ -58,7 +61,8 @@ guid_is_small (Some d) g is = by_text (as_str d) is
     by_text None is = let never : ⊥ = cc in absurd never
     by_text (Some text) is = by_guid (guid_of_text text) (guid_fits text) is
 
-object_ordered : (o : Option Data) (found : Option Members) → IfSome o IsOrdered → of_kind BadFingerprint as_object (option_and_then unless_null o) ≡ Ok found → IfSome found AreMembersOrdered
+object_ordered : (o : Option Data) (found : Option Members) → IfSome o IsOrdered
+    → of_kind BadFingerprint as_object (option_and_then unless_null o) ≡ Ok found → IfSome found AreMembersOrdered
 object_ordered None found ordered is = subst (λ o. IfSome o AreMembersOrdered) (ok_is None found is) tt
 object_ordered (Some null) found ordered is = subst (λ o. IfSome o AreMembersOrdered) (ok_is None found is) tt
 object_ordered (Some (boolean b)) found ordered is = let never : ⊥ = cc in absurd never
@@ -74,7 +78,8 @@ get_ordered name d ordered = by_found (get name d) refl
     by_found None is = tt
     by_found (Some e) is = get-IsOrdered name d e ordered is
 
-pairs_ordered : (found : Option Members) (ps : List (List ℕ × List ℕ)) → IfSome found AreMembersOrdered → pairs_of found ≡ Ok ps → AreMembersOrdered (text_members ps)
+pairs_ordered : (found : Option Members) (ps : List (List ℕ × List ℕ)) → IfSome found AreMembersOrdered → pairs_of found ≡ Ok ps
+    → AreMembersOrdered (text_members ps)
 pairs_ordered None ps ordered is = subst (λ l. AreMembersOrdered (text_members l)) (ok_is [] ps is) tt
 pairs_ordered (Some ms) ps ordered is = (rises ms ps ordered is).ordered
 
@@ -127,23 +132,30 @@ level_right head parts level is passes =
     let overriding = bind_ok (overriding_level_at head.invocations parts.invocation descriptor.0) _ level descriptor.2 in
     sym (ok_is _ level overriding.2) ∙ no_level (is_fail parts.kind) _ _ _ passes
 
-by_sound : (d : Data) (head : RunHead) (tool : List ℕ) (parts : Parts) (r : Record) → IsOrdered d → AreReadFrom false d parts → record_by head tool parts ≡ Ok r → IsOfTool tool r
+by_sound : (options : RecordOptions) (d : Data) (head : RunHead) (tool : List ℕ) (parts : Parts) (r : Record) → IsOrdered d
+    → AreReadFrom options.regions d parts → record_by options.ignored head tool parts ≡ Ok r → IsOfTool options tool r
 unfolding record_by
-by_sound d head tool parts r ordered read is =
+by_sound options d head tool parts r ordered read is =
     let descriptor = bind_ok (descriptor_of head.components (reference_of parts)) _ r is in
     let level = bind_ok (level_of head parts) _ r descriptor.2 in
     let place = bind_ok (place_of head.artifacts parts) _ r level.2 in
     let whole = ok_is _ r place.2 in
-    subst (IsOfTool tool) whole
+    subst (IsOfTool options tool) whole
     (record {
       tool_is = refl;
       readable = record {
         guid = read.guid;
         level = level_right head parts level.0 level.1;
-        full = at_ordered (codes "fingerprints") d parts.full ordered read.full;
-        partial = at_ordered (codes "partialFingerprints") d parts.partial ordered read.partial;
-        region = ap (if_placed place.0) read.region ∙ none_placed place.0;
-        snippet = ap (if_placed place.0) read.snippet ∙ none_placed place.0;
+        full = ordered_kept options.ignored parts.full (at_ordered (codes "fingerprints") d parts.full ordered read.full);
+        partial = ordered_kept options.ignored parts.partial (at_ordered (codes "partialFingerprints") d parts.partial ordered read.partial);
+        full_kept = kept_twice options.ignored parts.full;
+        partial_kept = kept_twice options.ignored parts.partial;
+        region = placed_too IsRegion place.0 parts.region (subst (λ o. IfSome o IsRegion) (sym read.region) (region_read options.regions d));
+        snippet = placed_too IsFilled place.0 parts.snippet (subst (λ o. IfSome o IsFilled) (sym read.snippet) (snippet_read options.regions d));
+        region_placed = placed_twice place.0 parts.region;
+        snippet_placed = placed_twice place.0 parts.snippet;
+        no_region = λ none. ap (if_placed place.0) (read.region ∙ ap (λ b. (own_region b d).region) none) ∙ none_placed place.0;
+        no_snippet = λ none. ap (if_placed place.0) (read.snippet ∙ ap (λ b. (own_region b d).snippet) none) ∙ none_placed place.0;
       };
     })
 
@@ -163,26 +175,30 @@ listed_ordered (Some (string s)) i ordered = tt
 listed_ordered (Some (array ds)) i ordered = nth_ordered ds i ordered
 listed_ordered (Some (object ms)) i ordered = tt
 
-record_sound : (run : Data) (seq : ℕ) (r : Record) → IsOrdered run → record_of false run seq ≡ Ok r → IsOfTool (tool_name run) r
+record_sound : (options : RecordOptions) (run : Data) (seq : ℕ) (r : Record) → IsOrdered run → record_of options run seq ≡ Ok r
+    → IsOfTool options (tool_name run) r
 unfolding record_of record_in
-record_sound run seq r ordered is =
+record_sound options run seq r ordered is =
     let head = bind_ok (head_of run) _ r is in
-    let parts = bind_ok (parts_of false (result_at run seq)) (record_by head.0 (tool_name run)) r head.2 in
+    let parts = bind_ok (parts_of options.regions (result_at run seq)) (record_by options.ignored head.0 (tool_name run)) r head.2 in
     let result : IsOrdered (result_at run seq) = listed_ordered (get (codes "results") run) seq (get_ordered (codes "results") run ordered) in
-    by_sound (result_at run seq) head.0 (tool_name run) parts.0 r result (parts_read false (result_at run seq) parts.0 parts.1) parts.2
+    by_sound options (result_at run seq) head.0 (tool_name run) parts.0 r result (parts_read options.regions (result_at run seq) parts.0 parts.1) parts.2
 
 some_ok : {A : Type 0} (o : Option A) (fault : Fault) (x : A) → at_whole (ok_or o fault) ≡ Ok x → o ≡ Some x
 some_ok None fault x is = let never : ⊥ = cc in absurd never
 some_ok (Some y) fault x is = ap Some (ok_is y x is)
 
 -- each result of a log that is read has a record that can be read again
-pub read_sound : (allow : Bool) (bytes : List ℕ) (runs : List Data) (k seq : ℕ) (r : Record) → log_of allow bytes ≡ Ok runs → record_of false (slice_index_or runs k null) seq ≡ Ok r → IsOfTool (tool_name (slice_index_or runs k null)) r
+pub read_sound : (options : RecordOptions) (allow : Bool) (bytes : List ℕ) (runs : List Data) (k seq : ℕ) (r : Record) → log_of allow bytes ≡ Ok runs
+    → record_of options (slice_index_or runs k null) seq ≡ Ok r → IsOfTool options (tool_name (slice_index_or runs k null)) r
 unfolding log_of log_of_value
-read_sound allow bytes runs k seq r is got =
+read_sound options allow bytes runs k seq r is got =
     let value = bind_ok (at_whole (ok_or (json_of (without_mark bytes)) NotJson)) _ runs is in
     let form = bind_ok (at_whole (check_log (stripped value.0))) _ runs value.2 in
     let each = bind_ok (check_each allow 0 0 (runs_of (stripped value.0))) _ runs form.2 in
     let are : runs_of (stripped value.0) ≡ runs = ok_is _ runs each.2 in
-    let whole : IsOrdered (stripped value.0) = stripped_ordered value.0 (json_ordered (without_mark bytes) value.0 (some_ok (json_of (without_mark bytes)) NotJson value.0 value.1)) in
-    let run : IsOrdered (slice_index_or (runs_of (stripped value.0)) k null) = listed_ordered (get (codes "runs") (stripped value.0)) k (get_ordered (codes "runs") (stripped value.0) whole) in
-    record_sound (slice_index_or runs k null) seq r (subst (λ l. IsOrdered (slice_index_or l k null)) are run) got
+    let whole : IsOrdered (stripped value.0) =
+    stripped_ordered value.0 (json_ordered (without_mark bytes) value.0 (some_ok (json_of (without_mark bytes)) NotJson value.0 value.1)) in
+    let run : IsOrdered (slice_index_or (runs_of (stripped value.0)) k null) =
+    listed_ordered (get (codes "runs") (stripped value.0)) k (get_ordered (codes "runs") (stripped value.0) whole) in
+    record_sound options (slice_index_or runs k null) seq r (subst (λ l. IsOrdered (slice_index_or l k null)) are run) got

@@ -15,6 +15,8 @@ use Rattle.sarif_runs.specs.Level.{is_fail, first_level}
 use Rattle.sarif_runs.specs.Place.{place_by}
 use Rattle.sarif_runs.specs.Record.{if_placed, record_by, rule_id_of}
 use Rattle.sarif_known.specs.KnownRun.{base_alone, base_without}
+use Rattle.sarif_runs.specs.Ignoring.{without_names}
+use Rattle.sarif_runs.specs.declared.run_options.RecordOptions.{RecordOptions}
 use Rattle.sarif_known.specs.Laws.{IsReadable}
 use Rattle.sarif_known.proofs.KnownParts.{level_read, uri_read, base_read, known_parts}
 
@@ -66,17 +68,58 @@ none_placed {X} place = by_test (is_some place.uri || is_some place.base)
     by_test true = refl
     by_test false = refl
 
-pub record_back : (bases : List (List ℕ)) (n : ℕ) (r : Record) → IsReadable r → HasArtifact bases n (base_alone r)
-    → record_by (known_head bases) r.tool (known_parts r (number_for n r)) ≡ Ok r
-unfolding record_by
-record_back bases n r readable there =
-    rw (no_descriptor (none_if_empty r.rule_id), place_back bases n r.place.uri r.place.base there, level_back r.kind r.level readable.level, id_back r.rule_id) whole_back
+-- what is left with a place is left with it again
+pub placed_twice : {X : Type 0} (place : Place) (o : Option X) → if_placed place (if_placed place o) ≡ if_placed place o
+placed_twice {X} place o = by_test (is_some place.uri || is_some place.base)
   where
-    no_region : if_placed r.place None ≡ r.region
-    no_region = none_placed r.place ∙ sym readable.region
+    by_test : (b : Bool) → ◌≡◌ {A = Option X} (if b then (if b then o else None) else None) (if b then o else None)
+    by_test true = refl
+    by_test false = refl
 
-    no_snippet : if_placed r.place None ≡ r.snippet
-    no_snippet = none_placed r.place ∙ sym readable.snippet
-
-    whole_back : ◌≡◌ {A = Result Record Fault} (Ok (record { tool = r.tool; rule_id = r.rule_id; kind = r.kind; level = r.level; message = r.message; place = r.place; guid = r.guid; full = r.full; partial = r.partial; held = r.held; region = if_placed r.place None; snippet = if_placed r.place None })) (Ok r)
-    whole_back = λ i. Ok (record { tool = r.tool; rule_id = r.rule_id; kind = r.kind; level = r.level; message = r.message; place = r.place; guid = r.guid; full = r.full; partial = r.partial; held = r.held; region = no_region i; snippet = no_snippet i })
+pub record_back : (options : RecordOptions) (bases : List (List ℕ)) (n : ℕ) (r : Record) → IsReadable options r
+    → HasArtifact bases n (base_alone r)
+    → record_by options.ignored (known_head bases) r.tool (known_parts r (number_for n r)) ≡ Ok r
+unfolding record_by
+record_back options bases n r readable there =
+    rw (
+      no_descriptor (none_if_empty r.rule_id),
+      place_back bases n r.place.uri r.place.base there,
+      level_back r.kind r.level readable.level,
+      id_back r.rule_id,
+    ) whole_back
+  where
+    whole_back : ◌≡◌ {A = Result Record Fault}
+        (Ok
+        (record {
+          tool = r.tool;
+          rule_id = r.rule_id;
+          kind = r.kind;
+          level = r.level;
+          message = r.message;
+          place = r.place;
+          guid =
+              r.guid;
+          full = without_names options.ignored r.full;
+          partial = without_names options.ignored r.partial;
+          held = r.held;
+          region = if_placed r.place r.region;
+          snippet = if_placed r.place r.snippet;
+        }))
+        (Ok r)
+    whole_back =
+        λ i. Ok
+        (record {
+          tool = r.tool;
+          rule_id = r.rule_id;
+          kind = r.kind;
+          level = r.level;
+          message = r.message;
+          place = r.place;
+          guid =
+              r.guid;
+          full = readable.full_kept i;
+          partial = readable.partial_kept i;
+          held = r.held;
+          region = readable.region_placed i;
+          snippet = readable.snippet_placed i;
+        })

@@ -16,7 +16,8 @@ pub record Rises (ps : List (List ℕ × List ℕ)) (ms : Members) : Type 0 wher
   pub below : (k : List ℕ) → IsBelow k ms → IsBelow k (text_members ps)
   pub ordered : AreMembersOrdered (text_members ps)
 
-rises_with : (name : List ℕ) (d : Data) (ms : Members) (o : Option (List ℕ)) (more : List (List ℕ × List ℕ)) → IsBelow name ms → Rises more ms → Rises (with_pair name o more) (member name d ms)
+rises_with : (name : List ℕ) (d : Data) (ms : Members) (o : Option (List ℕ)) (more : List (List ℕ × List ℕ)) → IsBelow name ms
+    → Rises more ms → Rises (with_pair name o more) (member name d ms)
 rises_with name d ms None more first rest = record { below = λ k b. rest.below k b.1; ordered = rest.ordered }
 rises_with name d ms (Some text) more first rest = record {
   below = λ k b. (b.0, rest.below k b.1);

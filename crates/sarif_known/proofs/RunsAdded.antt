@@ -24,7 +24,8 @@ regrouped : (o a b c : List Token) → ((o ++ a) ++ b) ++ c ≡ o ++ (a ++ (b ++
 regrouped o a b c = simp append_assoc
 
 -- one artifact more
-pub step_artifacts : (o whole : List Token) (r : Record) (rs : List Record) (base : List ℕ) → base_alone r ≡ Some base → o ++ each_tokens (map artifact_at (bases_alone (r ∷ rs))) ≡ whole
+pub step_artifacts : (o whole : List Token) (r : Record) (rs : List Record) (base : List ℕ) → base_alone r ≡ Some base
+    → o ++ each_tokens (map artifact_at (bases_alone (r ∷ rs))) ≡ whole
     → (o ++ data_tokens (artifact_at base)) ++ each_tokens (map artifact_at (bases_alone rs)) ≡ whole
 step_artifacts o whole r rs base alone so_far =
     append_assoc o (data_tokens (artifact_at base)) (each_tokens (map artifact_at (bases_alone rs)))
@@ -32,8 +33,10 @@ step_artifacts o whole r rs base alone so_far =
     ∙ so_far
 
 -- the artifacts of a run are lost where those are that come one by one
-pub artifacts_lost : (o o1 o2 : List Token) (bases : List (List ℕ)) (fault : MergeFault) → (length bases == 0) ≡ false → o1 ≡ o ++ key (codes "artifacts") ∷ [] → o2 ≡ o1 ++ begin_array ∷ []
-    → IsLost (pretty (o2 ++ each_tokens (map artifact_at bases))) fault → IsLost (pretty (o ++ value_tokens (codes "artifacts") (list_if_any (map artifact_at bases)))) fault
+pub artifacts_lost : (o o1 o2 : List Token) (bases : List (List ℕ)) (fault : MergeFault) → (length bases == 0) ≡ false
+    → o1 ≡ o ++ key (codes "artifacts") ∷ [] → o2 ≡ o1 ++ begin_array ∷ []
+    → IsLost (pretty (o2 ++ each_tokens (map artifact_at bases))) fault
+    → IsLost (pretty (o ++ value_tokens (codes "artifacts") (list_if_any (map artifact_at bases)))) fault
 artifacts_lost o o1 o2 bases fault some e1 e2 lost =
     let each : List Token = each_tokens (map artifact_at bases) in
     part_lost (o2 ++ each) (end_array ∷ []) (o ++ value_tokens (codes "artifacts") (list_if_any (map artifact_at bases))) fault
@@ -43,7 +46,8 @@ artifacts_lost o o1 o2 bases fault some e1 e2 lost =
 
 -- the opening of a run is lost where its artifacts are
 pub opening_lost : (o o1 : List Token) (rs : List Record) (fault : MergeFault) → o1 ≡ o ++ begin_object ∷ []
-    → IsLost (pretty (o1 ++ value_tokens (codes "artifacts") (list_if_any (map artifact_at (bases_alone rs))))) fault → IsLost (pretty (o ++ run_opening rs)) fault
+    → IsLost (pretty (o1 ++ value_tokens (codes "artifacts") (list_if_any (map artifact_at (bases_alone rs))))) fault
+    → IsLost (pretty (o ++ run_opening rs)) fault
 opening_lost o o1 rs fault e1 lost =
     let artifacts : List Token = value_tokens (codes "artifacts") (list_if_any (map artifact_at (bases_alone rs))) in
     let rest : List Token = key (codes "results") ∷ begin_array ∷ [] in
@@ -74,10 +78,12 @@ run_lost o o1 run first again fault same too e1 lost =
 pub runs_lost : (o whole : List Token) (run : Chosen) (more : List Chosen) (fault : MergeFault) → o ++ each_tokens (map known_run (run ∷ more)) ≡ whole
     → IsLost (pretty (o ++ data_tokens (known_run run))) fault → IsLost (pretty whole) fault
 runs_lost o whole run more fault is lost =
-    part_lost (o ++ data_tokens (known_run run)) (each_tokens (map known_run more)) whole fault (append_assoc o (data_tokens (known_run run)) (each_tokens (map known_run more)) ∙ is) lost
+    part_lost (o ++ data_tokens (known_run run)) (each_tokens (map known_run more)) whole fault
+    (append_assoc o (data_tokens (known_run run)) (each_tokens (map known_run more)) ∙ is) lost
 
 -- the log is made of its opening, its runs and its closing
-pub log_made : (o1 o2 o3 : List Token) (runs : List Chosen) → o1 ≡ log_opening → o2 ≡ o1 ++ each_tokens (map known_run runs) → o3 ≡ o2 ++ log_closing → o3 ≡ data_tokens (known_log runs)
+pub log_made : (o1 o2 o3 : List Token) (runs : List Chosen) → o1 ≡ log_opening → o2 ≡ o1 ++ each_tokens (map known_run runs)
+    → o3 ≡ o2 ++ log_closing → o3 ≡ data_tokens (known_log runs)
 log_made o1 o2 o3 runs e1 e2 e3 = three [] log_opening (each_tokens (map known_run runs)) log_closing o1 o2 o3 e1 e2 e3 ∙ sym (log_tokens runs)
 
 -- the log is lost where its runs are
@@ -85,4 +91,5 @@ pub log_lost : (o1 : List Token) (runs : List Chosen) (fault : MergeFault) → o
     → IsLost (pretty (o1 ++ each_tokens (map known_run runs))) fault → IsLost (pretty_text (known_log runs)) fault
 log_lost o1 runs fault e1 lost =
     part_lost (o1 ++ each_tokens (map known_run runs)) log_closing (data_tokens (known_log runs)) fault
-    (ap (λ ts. (ts ++ each_tokens (map known_run runs)) ++ log_closing) e1 ∙ append_assoc log_opening (each_tokens (map known_run runs)) log_closing ∙ sym (log_tokens runs)) lost
+    (ap (λ ts. (ts ++ each_tokens (map known_run runs)) ++ log_closing) e1
+    ∙ append_assoc log_opening (each_tokens (map known_run runs)) log_closing ∙ sym (log_tokens runs)) lost

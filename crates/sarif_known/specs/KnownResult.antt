@@ -1,5 +1,5 @@
 -- A known result: what matching and states need, written from a record (SARIF 2.1.0, "result object").
-use Rattle.std.specs.Prelude.{ℕ, List, [], ◌∷◌, map, Option, Some, None, option_map, codes}
+use Rattle.std.specs.Prelude.{ℕ, ◌||◌, List, [], ◌∷◌, map, Option, Some, None, is_some, option_and_then, option_map, codes, if◌then◌else◌}
 use Rattle.serde_json.specs.Data.{Data, number, unsigned, string, array, object, Members, no_members, member}
 use Rattle.serde_json.specs.View.{items_of}
 use Rattle.sarif_model.specs.declared.kinds.Kind.{Kind}
@@ -9,6 +9,7 @@ use Rattle.sarif_model.specs.declared.kinds.Status.{Status}
 use Rattle.sarif_model.specs.declared.message.Message.{Message}
 use Rattle.sarif_model.specs.declared.place.Place.{Place}
 use Rattle.sarif_model.specs.declared.record.Record.{Record}
+use Rattle.sarif_model.specs.declared.region.Region.{Region}
 use Rattle.sarif_model.specs.Guid.{guid_text}
 use Rattle.sarif_model.specs.Kind.{kind_name}
 use Rattle.sarif_model.specs.Level.{level_name}
@@ -60,22 +61,48 @@ message_rows m =
     ∷ (codes "id", option_map string m.id)
     ∷ (codes "text", option_map string m.text) ∷ []
 
--- one location, whose artifact has these members
-abbrev pub one_location : Members → Data
-one_location ms =
+abbrev pub number_if : Option ℕ → Option Data
+number_if o = option_map (λ n. number (unsigned n)) o
+
+abbrev pub snippet_for : List ℕ → Data
+snippet_for text = object (member (codes "text") (string text) no_members)
+
+-- the lines and columns of a region, and the text of its snippet
+abbrev pub region_rows : Option Region → Option (List ℕ) → List Row
+region_rows region snippet =
+    (codes "endColumn", number_if (option_and_then (λ r. r.end_column) region))
+    ∷ (codes "endLine", number_if (option_and_then (λ r. r.end_line) region))
+    ∷ (codes "snippet", option_map snippet_for snippet)
+    ∷ (codes "startColumn", number_if (option_and_then (λ r. r.start_column) region))
+    ∷ (codes "startLine", number_if (option_map (λ r. r.start_line) region)) ∷ []
+
+-- the region, if it has lines or a snippet
+abbrev pub region_for : Option Region → Option (List ℕ) → Option Data
+region_for region snippet =
+    if is_some region || is_some snippet then Some (object_from (region_rows region snippet))
+    else None
+
+abbrev pub physical_rows : Members → Option Data → List Row
+physical_rows ms region =
+    (codes "artifactLocation", Some (object ms)) ∷ (codes "region", region) ∷ []
+
+-- one location with this region, whose artifact has these members
+abbrev pub one_location : Members → Option Data → Data
+one_location ms region =
     array (items_of (object (member (codes "physicalLocation")
-    (object (member (codes "artifactLocation") (object ms) no_members)) no_members) ∷ []))
+    (object_from (physical_rows ms region)) no_members) ∷ []))
 
 abbrev pub uri_rows : List ℕ → Option (List ℕ) → List Row
 uri_rows uri base =
     (codes "uri", Some (string uri)) ∷ (codes "uriBaseId", option_map string base) ∷ []
 
--- the place: its URI and its base next to it; a base without a URI by the number of the artifact that has it
-abbrev pub locations_for : Place → Option ℕ → Option Data
-locations_for place (Some n) =
-    Some (one_location (member (codes "index") (number (unsigned n)) no_members))
-locations_for place None =
-    option_map (λ uri. one_location (members_from (uri_rows uri place.base))) place.uri
+-- the place: its URI and its base next to it; a base without a URI by the number of the artifact that has it; with the
+-- region if there is one
+abbrev pub locations_for : Place → Option Data → Option ℕ → Option Data
+locations_for place region (Some n) =
+    Some (one_location (member (codes "index") (number (unsigned n)) no_members) region)
+locations_for place region None =
+    option_map (λ uri. one_location (members_from (uri_rows uri place.base)) region) place.uri
 
 abbrev pub suppression_for : Status → Data
 suppression_for status =
@@ -92,7 +119,7 @@ result_rows r artifact =
     ∷ (codes "fingerprints", texts_if_any r.full)
     ∷ (codes "kind", kind_unless_fail r.kind)
     ∷ (codes "level", level_if_fail r.kind r.level)
-    ∷ (codes "locations", locations_for r.place artifact)
+    ∷ (codes "locations", locations_for r.place (region_for r.region r.snippet) artifact)
     ∷ (codes "message", Some (object_from (message_rows r.message)))
     ∷ (codes "partialFingerprints", texts_if_any r.partial)
     ∷ (codes "ruleId", unless_empty r.rule_id)

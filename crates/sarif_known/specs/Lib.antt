@@ -7,3 +7,4 @@ pub mod KnownRun
 pub mod Laws
 pub mod Order
 pub mod Selected
+pub mod Standing

@@ -7,6 +7,7 @@ use Rattle.sarif_options.specs.declared.policy.Policy.{Policy}
 use Rattle.sarif_entries.specs.File.{File}
 use Rattle.sarif_suppress.specs.Suppressing.{is_suppressed, lasting}
 use Rattle.sarif_accept.specs.Adding.{may_hit}
+use Rattle.sarif_known.specs.declared.standing.Standing.{Standing}
 
 -- suppressed, and active without the entries that have an expiry date
 abbrev pub is_accepted_for_now : File → Record → Bool
@@ -22,24 +23,28 @@ is_new Unchanged = false
 is_new Updated = false
 is_new Absent = false
 
--- a current result that doesn't become known: it is accepted for now only; or, unless new results are adopted, it is
--- new, and a hit or suppressed
-abbrev pub is_left_out : File → Policy → Bool → Record → State → Bool
-is_left_out file policy adopt r state =
+-- new, or doubtful whether it isn't
+abbrev pub may_be_new : Standing → Bool
+may_be_new standing = is_new standing.state || standing.doubtful
+
+-- a current result that doesn't become known: it is accepted for now only; or, unless new results are adopted, it may
+-- be new, and is a hit or suppressed
+abbrev pub is_left_out : File → Policy → Bool → Record → Standing → Bool
+is_left_out file policy adopt r standing =
     is_accepted_for_now file r
-    || (not adopt && (is_new state && is_hit_or_suppressed file policy r state))
+    || (not adopt && (may_be_new standing && is_hit_or_suppressed file policy r standing.state))
 
 abbrev pub keep_unless : {A : Type 0} → Bool → A → List A → List A
 keep_unless true x xs = xs
 keep_unless false x xs = x ∷ xs
 
--- the current results that become known, of these results with these states
-abbrev pub known_of : File → Policy → Bool → List Record → List State → List Record
-known_of file policy adopt [] states = []
+-- the current results that become known, of these results with these standings
+abbrev pub known_of : File → Policy → Bool → List Record → List Standing → List Record
+known_of file policy adopt [] standings = []
 known_of file policy adopt (r ∷ rs) [] = []
-known_of file policy adopt (r ∷ rs) (state ∷ states) =
-    keep_unless (is_left_out file policy adopt r state) r
-    (known_of file policy adopt rs states)
+known_of file policy adopt (r ∷ rs) (standing ∷ standings) =
+    keep_unless (is_left_out file policy adopt r standing) r
+    (known_of file policy adopt rs standings)
 
 -- the results that no current result matches
 abbrev pub unmatched_of : List Record → List Bool → List Record

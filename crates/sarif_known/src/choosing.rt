@@ -8,6 +8,7 @@ ghost use Rattle.sarif_known.specs.Selected as said;
 ghost use Rattle.sarif_known.specs.Selected.{kept_of, known_of, unmatched_of};
 
 use crate::chosen::KnownRun;
+use crate::standing::Standing;
 use sarif_model::{Record, State, Text};
 use sarif_options::Policy;
 use sarif_results::Draft;
@@ -30,31 +31,38 @@ pub struct Choice<'a> {
 pub struct Results<'a, 's> {
     /// Their records.
     pub records: &'a [Record],
-    /// The baseline state of each.
-    pub states: &'s [State],
+    /// What matching says about each.
+    pub standings: &'s [Standing],
     /// What is written for each of them.
     pub drafts: &'s [Draft],
 }
 
+/// Whether a result is new, or doubtful whether it isn't.
+fn may_be_new(standing: Standing) -> bool
+    ensures { result ≡ said.may_be_new standing }
+{
+    standing.state == State::New || standing.doubtful
+}
+
 /// Whether a current result doesn't become known.
-fn is_left_out(choice: &Choice<'_>, found: &Record, state: State, applied: &Applied) -> bool
+fn is_left_out(choice: &Choice<'_>, found: &Record, standing: Standing, applied: &Applied) -> bool
     requires entries { applied.now.entries ≡ matching_numbers choice.now.file.now found.now }
     requires verdict { applied.now.suppressed ≡ is_suppressed choice.now.file.now found.now }
     ensures { result ≡ said.is_left_out choice.now.file.now choice.now.policy choice.now.adopt
-        found.now state }
+        found.now standing }
 {
     if applied.suppressed && !choice.file.suppresses_for_good(found, applied) {
         return true;
     }
-    if choice.adopt || state != State::New {
+    if choice.adopt || !may_be_new(standing) {
         return false;
     }
-    applied.suppressed || choice.policy.counts(state, found.level)
+    applied.suppressed || choice.policy.counts(standing.state, found.level)
 }
 
 /// Returns which results of a run of a log become known: those that aren't suppressed thanks to entries with an
-/// expiry date only; and of the new ones, unless the choice adopts them, those that are neither hits nor
-/// suppressed. Returns `AllocError` if memory for the list runs out.
+/// expiry date only; and of the new and the doubtful ones, unless the choice adopts them, those that are neither hits
+/// nor suppressed. Returns `AllocError` if memory for the list runs out.
 pub fn know_run<'a>(
     alloc: Global,
     choice: &Choice<'_>,
@@ -62,19 +70,19 @@ pub fn know_run<'a>(
     results: &Results<'a, '_>,
 ) -> Result<KnownRun<'a>, AllocError>
     requires few { length results.now.records.now ≤ most_results }
-    requires states { length results.now.states.now ≡ length results.now.records.now }
+    requires standings { length results.now.standings.now ≡ length results.now.records.now }
     requires drafts { map (λ d. d.applied) results.now.drafts.now
         ≡ map (applied_of choice.now.file.now) results.now.records.now }
     ensures { IfOk result (λ run. chosen_of run ≡ record {
       tool = tool.now;
       records = known_of choice.now.file.now choice.now.policy choice.now.adopt
-          results.now.records.now results.now.states.now;
+          results.now.records.now results.now.standings.now;
     }) }
 {
     let mut records = Vec::new(alloc);
     for (at, found) in results.records.iter().enumerate() {
         let applied = &results.drafts[at].applied;
-        if !is_left_out(choice, found, results.states[at], applied) {
+        if !is_left_out(choice, found, results.standings[at], applied) {
             records.push(found)?;
         }
     }

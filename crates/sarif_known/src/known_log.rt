@@ -8,6 +8,7 @@ ghost use Rattle.sarif_model.specs.Limits.{most_bytes};
 ghost use Rattle.sarif_known.specs.Chosen.{all_chosen};
 ghost use Rattle.sarif_known.specs.KnownLog.{known_text as text_of, pretty_text, known_log, IsLost};
 ghost use Rattle.sarif_known.specs.KnownRun.{known_run};
+ghost use Rattle.sarif_runs.specs.declared.run_options.RecordOptions.{RecordOptions};
 ghost use Rattle.sarif_known.specs.Laws.{CanBeRead};
 ghost use Rattle.sarif_known.specs.Order.{known_runs};
 ghost use Rattle.sarif_known.specs.Internal.Tokens.{data_tokens, each_tokens, log_closing, log_opening};
@@ -18,6 +19,7 @@ use crate::lines::Lines;
 use crate::members::push_text;
 use crate::order::order_runs;
 use json::Token;
+use sarif_match::MatchingVersion;
 use sarif_model::{MOST_BYTES, MergeFault};
 use std::alloc::{AllocError, Global};
 use std::hash::RandomState;
@@ -77,26 +79,31 @@ fn log_text(alloc: Global, runs: &[KnownRun<'_>]) -> Result<String, MergeFault>
 
 /// Returns the text of the known log with those of these runs that have results: the tools in the order of their
 /// first runs among those of the baselines and then of the inputs; of a tool its input runs, and then its baseline
-/// runs. The table of tools hashes with `seed`, on which no byte depends. Returns `TooLong` if the text has more
+/// runs, or in version 3 the other way round. The table of tools hashes with `seed`, on which no byte depends. Returns `TooLong` if the text has more
 /// than `MOST_BYTES` bytes, so that it could not be read again, and OutOfMemory if memory runs out. If the records
 /// are those of results that were read, the text is read as the known log.
 pub fn known_text(
     alloc: Global,
     seed: RandomState,
+    version: MatchingVersion,
     current: Vec<KnownRun<'_>>,
     baseline: Vec<KnownRun<'_>>,
 ) -> Result<String, MergeFault>
     ensures text { IfOk result (λ text. string_bytes text
-        ≡ text_of (known_runs (all_chosen current.entry.items) (all_chosen baseline.entry.items))) }
-    ensures reads { IfOk result (λ text.
-        CanBeRead (known_runs (all_chosen current.entry.items) (all_chosen baseline.entry.items))
+        ≡ text_of (known_runs version (all_chosen current.entry.items)
+        (all_chosen baseline.entry.items))) }
+    ensures reads { IfOk result (λ text. (options : RecordOptions)
+        → CanBeRead options (known_runs version (all_chosen current.entry.items)
+        (all_chosen baseline.entry.items))
         → json_of (without_mark (string_bytes text)) ≡ Some (known_log
-        (known_runs (all_chosen current.entry.items) (all_chosen baseline.entry.items)))) }
+        (known_runs version (all_chosen current.entry.items)
+        (all_chosen baseline.entry.items)))) }
     ensures short { IfOk result (λ text. length (string_bytes text) ≤ most_bytes) }
     ensures lost { IfErr result (IsLost
-        (text_of (known_runs (all_chosen current.entry.items) (all_chosen baseline.entry.items)))) }
+        (text_of (known_runs version (all_chosen current.entry.items)
+        (all_chosen baseline.entry.items)))) }
 {
-    let runs = order_runs(alloc, seed, current, baseline)?;
+    let runs = order_runs(alloc, seed, version, current, baseline)?;
     let mut text = log_text(alloc, &runs)?;
     text.push_str("\n")?;
     if text.len() > MOST_BYTES {

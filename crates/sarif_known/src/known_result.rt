@@ -1,9 +1,8 @@
 //! A known result.
 ghost use Rattle.std.specs.Prelude.{◌≡◌, ◌<◌, ◌^◌, ◌++◌, Some, OnOk, codes};
 ghost use Rattle.serde_json.specs.Data.{no_members, member, number, unsigned};
-ghost use Rattle.sarif_model.specs.declared.place.Place.{Place};
 ghost use Rattle.sarif_known.specs.KnownResult.{known_result, locations_for, members_from, message_rows};
-ghost use Rattle.sarif_known.specs.KnownResult.{object_from, one_location, result_rows, uri_rows};
+ghost use Rattle.sarif_known.specs.KnownResult.{object_from, one_location, region_for, result_rows, uri_rows};
 ghost use Rattle.sarif_known.specs.Internal.Tokens.{closed, data_tokens, first_tokens, last_tokens, opened, value_tokens};
 
 use crate::lines::Lines;
@@ -11,9 +10,9 @@ use crate::members::{
     push_guid, push_kind, push_level, push_rule_id, push_strings_if, push_suppressions_if,
     push_text, push_text_if, push_texts_if,
 };
-use itoa::Buffer;
+use crate::region::{push_number, push_region_if};
 use json::Token;
-use sarif_model::{Message, Place, Record, Text};
+use sarif_model::{Message, Record, Text};
 use std::alloc::AllocError;
 
 /// Adds the message: its text, its id and its arguments, as far as there are any (SARIF 2.1.0, "message object").
@@ -44,60 +43,58 @@ fn open_location(out: &mut Lines) -> Result<(), AllocError>
     Ok(())
 }
 
-/// Closes it again.
-fn close_location(out: &mut Lines) -> Result<(), AllocError>
-    ensures { OnOk result (out.new ≡ out.old ++ closed) }
+/// Closes it again, after the region of this record.
+fn close_location(out: &mut Lines, found: &Record) -> Result<(), AllocError>
+    ensures { OnOk result
+        (out.new ≡ out.old ++ closed (region_for found.now.region found.now.snippet)) }
 {
     out.token(Token::EndObject)?;
+    push_region_if(out, &found.region, &found.snippet)?;
     out.token(Token::EndObject)?;
     out.token(Token::EndObject)?;
     out.token(Token::EndArray)?;
     Ok(())
 }
 
-/// Adds a place by its URI, and its base next to it if it has one.
-fn push_uri(out: &mut Lines, uri: &Text, base: &Option<Text>) -> Result<(), AllocError>
+/// Adds a place by its URI, and its base next to it if it has one, with the region of this record.
+fn push_uri(
+    out: &mut Lines,
+    uri: &Text,
+    base: &Option<Text>,
+    found: &Record,
+) -> Result<(), AllocError>
     ensures { OnOk result (out.new ≡ out.old ++ value_tokens (codes "locations")
-        (Some (one_location (members_from (uri_rows uri.now base.now))))) }
+        (Some (one_location (members_from (uri_rows uri.now base.now))
+        (region_for found.now.region found.now.snippet)))) }
 {
     open_location(out)?;
     push_text(out, "uri", uri.as_str())?;
     push_text_if(out, "uriBaseId", base)?;
-    close_location(out)?;
+    close_location(out, found)?;
     Ok(())
 }
 
-/// Adds the number of an artifact.
-fn push_index(out: &mut Lines, artifact: u32) -> Result<(), AllocError>
-    ensures { OnOk result (out.new ≡ out.old
-        ++ value_tokens (codes "index") (Some (number (unsigned artifact)))) }
-{
-    let mut buffer = Buffer::new();
-    out.token(Token::Key("index"))?;
-    out.token(Token::Number(buffer.format(artifact)))?;
-    Ok(())
-}
-
-/// Adds a place by the artifact that has it.
-fn push_artifact(out: &mut Lines, artifact: u32) -> Result<(), AllocError>
+/// Adds a place by the artifact that has it, with the region of this record.
+fn push_artifact(out: &mut Lines, artifact: u32, found: &Record) -> Result<(), AllocError>
     ensures { OnOk result (out.new ≡ out.old ++ value_tokens (codes "locations")
-        (Some (one_location (member (codes "index") (number (unsigned artifact)) no_members)))) }
+        (Some (one_location (member (codes "index") (number (unsigned artifact)) no_members)
+        (region_for found.now.region found.now.snippet)))) }
 {
     open_location(out)?;
-    push_index(out, artifact)?;
-    close_location(out)?;
+    push_number(out, "index", artifact)?;
+    close_location(out, found)?;
     Ok(())
 }
 
 /// Adds the location, if the place has a URI or the number of an artifact (SARIF 2.1.0, "locations property").
-fn push_location(out: &mut Lines, place: &Place, artifact: Option<u32>) -> Result<(), AllocError>
-    ensures { OnOk result (out.new ≡ out.old
-        ++ value_tokens (codes "locations") (locations_for place.now artifact)) }
+fn push_location(out: &mut Lines, found: &Record, artifact: Option<u32>) -> Result<(), AllocError>
+    ensures { OnOk result (out.new ≡ out.old ++ value_tokens (codes "locations")
+        (locations_for found.now.place (region_for found.now.region found.now.snippet) artifact)) }
 {
     match artifact {
-        Some(number) => push_artifact(out, number),
-        None => match &place.uri {
-            Some(uri) => push_uri(out, uri, &place.base),
+        Some(number) => push_artifact(out, number, found),
+        None => match &found.place.uri {
+            Some(uri) => push_uri(out, uri, &found.place.base, found),
             None => Ok(()),
         },
     }
@@ -115,7 +112,7 @@ fn push_first_members(
     push_texts_if(out, "fingerprints", &found.full)?;
     push_kind(out, found.kind)?;
     push_level(out, found.kind, found.level)?;
-    push_location(out, &found.place, artifact)?;
+    push_location(out, found, artifact)?;
     Ok(())
 }
 

@@ -11,6 +11,8 @@ mod laws;
 mod lines;
 mod members;
 mod order;
+mod region;
+mod standing;
 
 pub use choosing::{Choice, Results, keep_run, know_run};
 pub use chosen::KnownRun;
@@ -19,3 +21,4 @@ pub use laws::{
     just_these_results_become_known, own_suppressions_of_a_baseline_change_no_match,
     what_is_known_is_read_again, what_is_read_can_be_known,
 };
+pub use standing::{Standing, standing_of};

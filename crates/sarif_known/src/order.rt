@@ -3,10 +3,11 @@ ghost use Rattle.std.specs.Prelude.{◌≡◌, ◌++◌, ◌∷◌, [], OnOk, If
 ghost use Rattle.std.specs.List.{flat_map};
 ghost use Rattle.sarif_known.specs.Chosen.{all_chosen, chosen_of};
 ghost use Rattle.sarif_known.specs.Internal.Groups.{groups_of, side_by_side, spread, texts_of, AreApart};
-ghost use Rattle.sarif_known.specs.Order.{known_runs, once_each, runs_of_tool};
+ghost use Rattle.sarif_known.specs.Order.{in_turn, known_runs, once_each, runs_of_tool};
 
 use crate::chosen::KnownRun;
 use indexmap::IndexSet;
+use sarif_match::MatchingVersion;
 use sarif_model::Text;
 use std::alloc::{AllocError, Global};
 use std::hash::RandomState;
@@ -90,23 +91,54 @@ fn flatten<'a>(
     Ok(runs)
 }
 
+/// Adds those of these runs that have results to the groups of their tools, which are empty: the input runs before
+/// those of the baselines, in version 3 after them.
+fn add_in_turn<'a>(
+    version: MatchingVersion,
+    tools: &IndexSet<&'a Text, RandomState>,
+    groups: &mut Vec<Vec<KnownRun<'a>>>,
+    current: Vec<KnownRun<'a>>,
+    baseline: Vec<KnownRun<'a>>,
+) -> Result<(), AllocError>
+    requires apart { AreApart [] (texts_of tools.now.keys) }
+    requires count { length groups.old.items ≡ length tools.now.keys }
+    ensures added { OnOk result (groups_of groups.new.items
+        ≡ side_by_side (groups_of groups.old.items)
+        (map (runs_of_tool (in_turn version (all_chosen current.entry.items)
+        (all_chosen baseline.entry.items))) (texts_of tools.now.keys))) }
+{
+    match version {
+        MatchingVersion::Two => {
+            add_runs(tools, groups, current)?;
+            add_runs(tools, groups, baseline)?;
+        }
+        MatchingVersion::Three => {
+            add_runs(tools, groups, baseline)?;
+            add_runs(tools, groups, current)?;
+        }
+    }
+    Ok(())
+}
+
 /// Returns the runs that have results, tool by tool: the tools in the order of their first runs among those of the
-/// baselines and then of the inputs; of a tool its input runs, and then its baseline runs.
+/// baselines and then of the inputs; of a tool its input runs, and then its baseline runs, or in version 3 the other
+/// way round.
 pub(crate) fn order_runs<'a>(
     alloc: Global,
     seed: RandomState,
+    version: MatchingVersion,
     current: Vec<KnownRun<'a>>,
     baseline: Vec<KnownRun<'a>>,
 ) -> Result<Vec<KnownRun<'a>>, AllocError>
     ensures { IfOk result (λ runs. all_chosen runs.items
-        ≡ known_runs (all_chosen current.entry.items) (all_chosen baseline.entry.items)) }
+        ≡ known_runs version (all_chosen current.entry.items)
+        (all_chosen baseline.entry.items)) }
 {
     let mut tools = IndexSet::with_hasher(alloc, seed);
     add_tools(&mut tools, &baseline)?;
     add_tools(&mut tools, &current)?;
     let mut groups = empty_groups(alloc, tools.len())?;
-    add_runs(&tools, &mut groups, current)?;
-    add_runs(&tools, &mut groups, baseline)?;
+    add_in_turn(version, &tools, &mut groups, current, baseline)?;
     let runs = flatten(alloc, groups)?;
     Ok(runs)
 }

@@ -23,7 +23,8 @@ none_by false true is = let never : ⊥ = cc in absurd never
 none_by false false is = refl
 
 some_by : (a b : Bool) (cause : Cause) → ◌≡◌ {A = Option Cause} (if a then Some (Of TooMany) else (if b then Some TooLong else None)) (Some cause)
-    → first (if a then fault_at (Whole Suppress) (cause_of TooMany) ∷ [] else (if b then fault_at (Whole Suppress) TooLong ∷ [] else [])) ≡ Some (fault_at (Whole Suppress) cause)
+    → first (if a then fault_at (Whole Suppress) (cause_of TooMany) ∷ [] else (if b then fault_at (Whole Suppress) TooLong ∷ [] else []))
+    ≡ Some (fault_at (Whole Suppress) cause)
 some_by true b cause is = let same : Of TooMany ≡ cause = cc in ap (λ c. Some (fault_at (Whole Suppress) c)) same
 some_by false true cause is = let same : TooLong ≡ cause = cc in ap (λ c. Some (fault_at (Whole Suppress) c)) same
 some_by false false cause is = let never : ⊥ = cc in absurd never
@@ -31,9 +32,12 @@ some_by false false cause is = let never : ⊥ = cc in absurd never
 pub no_faults : (given : Option (List ℕ)) (kept : List Bool) (added : List Record) (renewal : Renewal) → renewal_cause given kept added renewal ≡ None
     → text_faults (length (renewed_entries given kept added renewal)) (renewed_file given kept added renewal) ≡ []
 no_faults given kept added renewal is =
-    none_by (nat_lt most_entries (length (renewed_entries given kept added renewal))) (nat_lt most_bytes (length (file_text (renewed_file given kept added renewal)))) is
+    none_by (nat_lt most_entries (length (renewed_entries given kept added renewal)))
+    (nat_lt most_bytes (length (file_text (renewed_file given kept added renewal)))) is
 
-pub some_fault : (given : Option (List ℕ)) (kept : List Bool) (added : List Record) (renewal : Renewal) (cause : Cause) → renewal_cause given kept added renewal ≡ Some cause
+pub some_fault : (given : Option (List ℕ)) (kept : List Bool) (added : List Record) (renewal : Renewal) (cause : Cause)
+    → renewal_cause given kept added renewal ≡ Some cause
     → first (text_faults (length (renewed_entries given kept added renewal)) (renewed_file given kept added renewal)) ≡ Some (fault_at (Whole Suppress) cause)
 some_fault given kept added renewal cause is =
-    some_by (nat_lt most_entries (length (renewed_entries given kept added renewal))) (nat_lt most_bytes (length (file_text (renewed_file given kept added renewal)))) cause is
+    some_by (nat_lt most_entries (length (renewed_entries given kept added renewal)))
+    (nat_lt most_bytes (length (file_text (renewed_file given kept added renewal)))) cause is

@@ -32,7 +32,8 @@ use Rattle.sarif_model.specs.declared.fault.Fault.TheVariants.{NotJson}
 
 -- ---- as many entries as were read
 
-pub entries_long : (version : Version) (today : Option ℕ) (n : ℕ) (ds : List Data) (es : List Entry) → entries_from version today n ds ≡ Ok es → length es ≡ length ds
+pub entries_long : (version : Version) (today : Option ℕ) (n : ℕ) (ds : List Data) (es : List Entry)
+    → entries_from version today n ds ≡ Ok es → length es ≡ length ds
 unfolding entries_from
 entries_long version today n [] es is = let same : [] ≡ es = cc in ap length (sym same)
 entries_long version today n (d ∷ ds) es is =
@@ -134,7 +135,8 @@ kept_or_not marks =
 pub kept_long : (m : Merge) (renewal : Renewal) → length (kept_in m renewal) ≡ length m.file.entries
 kept_long m renewal = length-map m.file.entries (is_kept renewal.prune (heard m.runs) m.file m.records)
 
-pub entries_number : (m : Merge) (renewal : Renewal) → IsFileOf m.bytes m.file → entries_count m renewal ≡ count_by (λ mark. mark) (kept_in m renewal) + length (added_in m renewal)
+pub entries_number : (m : Merge) (renewal : Renewal) → IsFileOf m.bytes m.file
+    → entries_count m renewal ≡ count_by (λ mark. mark) (kept_in m renewal) + length (added_in m renewal)
 entries_number m renewal read =
     let d = file_object m.bytes in
     let kept = kept_in m renewal in

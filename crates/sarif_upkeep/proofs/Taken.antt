@@ -2,7 +2,6 @@
 use Rattle.std.proofs.Common.{◌≡◌, ◌<◌, ◌≤◌, ◌+◌, ◌-◌, ◌++◌, ℕ, zero, suc, Bool, true, false, List, [], ◌∷◌, Option, Some, map, take, drop, length, get_or, append_assoc, refl, sym, ap, ◌∙◌, arith}
 use Rattle.std.proofs.lemmas.List.{drop-map, map-append, take-map}
 use Rattle.serde_json.specs.Data.{Data}
-use Rattle.sarif_model.specs.declared.kinds.State.{State}
 use Rattle.sarif_model.specs.declared.record.Record.{Record}
 use Rattle.sarif_model.specs.Run.{present, results_of}
 use Rattle.sarif_options.specs.declared.policy.Policy.{Policy}
@@ -25,6 +24,7 @@ use Rattle.sarif_results.specs.Drafts.{applied_of}
 use Rattle.sarif_known.specs.Chosen.{all_chosen, chosen_of, results_among, Chosen}
 use Rattle.sarif_known.specs.KnownLog.{known_text, too_long}
 use Rattle.sarif_known.specs.declared.chosen.KnownRun.{KnownRun}
+use Rattle.sarif_known.specs.declared.standing.Standing.{Standing}
 use Rattle.sarif_known.specs.Selected.{is_left_out, keep_unless, kept_of, known_of, unmatched_of}
 use Rattle.sarif_upkeep.specs.Heard.{tool_run}
 use Rattle.sarif_upkeep.specs.Known.{chosen_before, chosen_now, known_before, known_faults, known_now, runs_known}
@@ -76,7 +76,8 @@ pub runs_left : (runs : List OpenedRun) (n : ℕ) (run d : OpenedRun) → n < le
 runs_left runs n run d within is = ap (λ l. run_values (map placed_of l)) (first_left runs n run d within is)
 
 -- one more run of a log
-pub now_next : (file : File) (policy : Policy) (adopt : Bool) (runs : List Data) (run : Data) (more : List Data) (rs others : List Record) (states left : List State) (k : ℕ)
+pub now_next : (file : File) (policy : Policy) (adopt : Bool) (runs : List Data) (run : Data) (more : List Data) (rs others : List Record)
+    (states left : List Standing) (k : ℕ)
     → (old : List Chosen) (one : Chosen) (new whole : List Chosen)
     → runs ≡ run ∷ more → k ≡ length (results_of run) → others ≡ drop k rs → left ≡ drop k states
     → one ≡ record { tool = tool_name run; records = known_of file policy adopt (take k rs) (take k states) }
@@ -88,7 +89,8 @@ now_next file policy adopt runs run more rs others states left k old one new who
     let chosen : ℕ → Chosen = λ m. record { tool = tool_name run; records = known_of file policy adopt (take m rs) (take m states) } in
     let rest = chosen_now file policy adopt more (drop n rs) (drop n states) in
     let last : chosen_now file policy adopt more others left ≡ rest =
-    ap (λ l. chosen_now file policy adopt more l left) (others_are ∙ ap (λ m. drop m rs) count) ∙ ap (λ l. chosen_now file policy adopt more (drop n rs) l) (left_is ∙ ap (λ m. drop m states) count) in
+    ap (λ l. chosen_now file policy adopt more l left) (others_are ∙ ap (λ m. drop m rs) count)
+    ∙ ap (λ l. chosen_now file policy adopt more (drop n rs) l) (left_is ∙ ap (λ m. drop m states) count) in
     ap (λ l. l ++ chosen_now file policy adopt more others left) pushed
     ∙ append_assoc old (one ∷ []) (chosen_now file policy adopt more others left)
     ∙ ap (λ c. old ++ c ∷ chosen_now file policy adopt more others left) (one_is ∙ ap chosen count)
@@ -109,7 +111,8 @@ before_next heard runs run more rs others taken left k old one new whole runs_ar
     let chosen : ℕ → Chosen = λ m. record { tool = tool_name run; records = kept_of (heard (Some (tool_name run))) (take m rs) (take m taken) } in
     let rest = chosen_before heard more (drop n rs) (drop n taken) in
     let last : chosen_before heard more others left ≡ rest =
-    ap (λ l. chosen_before heard more l left) (others_are ∙ ap (λ m. drop m rs) count) ∙ ap (λ l. chosen_before heard more (drop n rs) l) (left_is ∙ ap (λ m. drop m taken) count) in
+    ap (λ l. chosen_before heard more l left) (others_are ∙ ap (λ m. drop m rs) count)
+    ∙ ap (λ l. chosen_before heard more (drop n rs) l) (left_is ∙ ap (λ m. drop m taken) count) in
     ap (λ l. l ++ chosen_before heard more others left) pushed
     ∙ append_assoc old (one ∷ []) (chosen_before heard more others left)
     ∙ ap (λ c. old ++ c ∷ chosen_before heard more others left) (one_is ∙ ap chosen count)
@@ -117,13 +120,15 @@ before_next heard runs run more rs others taken left k old one new whole runs_ar
     ∙ ap (λ l. old ++ chosen_before heard l rs taken) (sym runs_are)
     ∙ held
 
-pub chosen_push : (runs : List KnownRun) (run : KnownRun) (new : List KnownRun) → new ≡ runs ++ run ∷ [] → all_chosen new ≡ all_chosen runs ++ chosen_of run ∷ []
+pub chosen_push : (runs : List KnownRun) (run : KnownRun) (new : List KnownRun) → new ≡ runs ++ run ∷ []
+    → all_chosen new ≡ all_chosen runs ++ chosen_of run ∷ []
 chosen_push runs run new is = ap all_chosen is ∙ map-append chosen_of runs (run ∷ [])
 
 -- the same run, by equal parts
-pub known_same : (file : File) (policy : Policy) (adopt : Bool) (tool name : List ℕ) (rs these : List Record) (states those : List State)
+pub known_same : (file : File) (policy : Policy) (adopt : Bool) (tool name : List ℕ) (rs these : List Record) (states those : List Standing)
     → tool ≡ name → rs ≡ these → states ≡ those
-    → ◌≡◌ {A = Chosen} (record { tool = tool; records = known_of file policy adopt rs states }) (record { tool = name; records = known_of file policy adopt these those })
+    → ◌≡◌ {A = Chosen} (record { tool = tool; records = known_of file policy adopt rs states })
+    (record { tool = name; records = known_of file policy adopt these those })
 known_same file policy adopt tool name rs these states those tool_is rs_are states_are = rw (tool_is, rs_are, states_are) refl
 
 pub kept_same : (a b : Bool) (tool name : List ℕ) (rs these : List Record) (taken those : List Bool)
@@ -150,7 +155,8 @@ kept_fewer : (b : Bool) (r : Record) (rs all : List Record) → length rs ≤ le
 kept_fewer true r rs all few = omega (arith, few)
 kept_fewer false r rs all few = omega (arith, few)
 
-pub known_fewer : (file : File) (policy : Policy) (adopt : Bool) (rs : List Record) (states : List State) → length (known_of file policy adopt rs states) ≤ length rs
+pub known_fewer : (file : File) (policy : Policy) (adopt : Bool) (rs : List Record) (states : List Standing)
+    → length (known_of file policy adopt rs states) ≤ length rs
 known_fewer file policy adopt [] states = omega arith
 known_fewer file policy adopt (r ∷ rs) [] = omega arith
 known_fewer file policy adopt (r ∷ rs) (state ∷ states) =
@@ -165,7 +171,7 @@ pub kept_of_fewer : (heard : Bool) (rs : List Record) (taken : List Bool) → le
 kept_of_fewer true rs taken = omega arith
 kept_of_fewer false rs taken = unmatched_fewer rs taken
 
-pub now_fewer : (file : File) (policy : Policy) (adopt : Bool) (runs : List Data) (rs : List Record) (states : List State)
+pub now_fewer : (file : File) (policy : Policy) (adopt : Bool) (runs : List Data) (rs : List Record) (states : List Standing)
     → results_among (chosen_now file policy adopt runs rs states) ≤ length rs
 now_fewer file policy adopt [] rs states = omega arith
 now_fewer file policy adopt (run ∷ runs) rs states =
@@ -175,7 +181,8 @@ now_fewer file policy adopt (run ∷ runs) rs states =
     let all = split_long n rs in
     omega (arith, here, rest, all)
 
-pub before_fewer : (heard : Option (List ℕ) → Bool) (runs : List Data) (rs : List Record) (taken : List Bool) → results_among (chosen_before heard runs rs taken) ≤ length rs
+pub before_fewer : (heard : Option (List ℕ) → Bool) (runs : List Data) (rs : List Record) (taken : List Bool)
+    → results_among (chosen_before heard runs rs taken) ≤ length rs
 before_fewer heard [] rs taken = omega arith
 before_fewer heard (run ∷ runs) rs taken =
     let n = length (present (results_of run)) in
@@ -186,8 +193,8 @@ before_fewer heard (run ∷ runs) rs taken =
 
 -- ---- the known log of a merge
 
-pub now_same : (m : Merge) (a : Bool) (file : File) (policy : Policy) (adopt : Bool) (runs : List Data) (rs : List Record) (states : List State)
-    → file ≡ m.file → policy ≡ m.policy → adopt ≡ a → runs ≡ m.runs → rs ≡ m.records → states ≡ m.states
+pub now_same : (m : Merge) (a : Bool) (file : File) (policy : Policy) (adopt : Bool) (runs : List Data) (rs : List Record) (states : List Standing)
+    → file ≡ m.file → policy ≡ m.policy → adopt ≡ a → runs ≡ m.runs → rs ≡ m.records → states ≡ m.standings
     → chosen_now file policy adopt runs rs states ≡ known_now m a
 now_same m a file policy adopt runs rs states file_is policy_is adopt_is runs_are rs_are states_are =
     rw (file_is, policy_is, adopt_is, runs_are, rs_are, states_are) refl

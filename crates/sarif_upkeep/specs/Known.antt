@@ -1,7 +1,6 @@
 -- The known log of a merge.
 use Rattle.std.specs.Prelude.{ℕ, ◌+◌, ◌-◌, Bool, true, false, List, [], ◌∷◌, drop, length, nat_lt, take, Option, Some, if◌then◌else◌}
 use Rattle.serde_json.specs.Data.{Data}
-use Rattle.sarif_model.specs.declared.kinds.State.{State}
 use Rattle.sarif_model.specs.declared.merge_fault.At.TheVariants.{Whole}
 use Rattle.sarif_model.specs.declared.merge_fault.Cause.TheVariants.{TooLong}
 use Rattle.sarif_model.specs.declared.merge_fault.MergeFault.{MergeFault}
@@ -20,6 +19,7 @@ use Rattle.sarif_known.specs.Chosen.{results_among, Chosen}
 use Rattle.sarif_known.specs.KnownLog.{known_text}
 use Rattle.sarif_known.specs.Order.{known_runs}
 use Rattle.sarif_known.specs.Selected.{kept_of, known_of}
+use Rattle.sarif_known.specs.declared.standing.Standing.{Standing}
 use Rattle.sarif_upkeep.specs.Heard.{heard}
 use Rattle.sarif_upkeep.specs.Merge.{Merge}
 
@@ -28,17 +28,17 @@ abbrev pub adopts : Knowing → Bool
 adopts Matched = false
 adopts Adopted = true
 
--- for each input run the results that become known; the records and states are those of all results
-abbrev pub chosen_now : File → Policy → Bool → List Data → List Record → List State
+-- for each input run the results that become known; the records and standings are those of all results
+abbrev pub chosen_now : File → Policy → Bool → List Data → List Record → List Standing
     → List Chosen
-chosen_now file policy adopt [] rs states = []
-chosen_now file policy adopt (run ∷ runs) rs states =
+chosen_now file policy adopt [] rs standings = []
+chosen_now file policy adopt (run ∷ runs) rs standings =
     let n = length (results_of run) in
     record {
       tool = tool_name run;
-      records = known_of file policy adopt (take n rs) (take n states);
+      records = known_of file policy adopt (take n rs) (take n standings);
     }
-    ∷ chosen_now file policy adopt runs (drop n rs) (drop n states)
+    ∷ chosen_now file policy adopt runs (drop n rs) (drop n standings)
 
 -- for each baseline run the results that stay known; the records and marks are those of all results that aren't absent
 -- already
@@ -54,14 +54,15 @@ chosen_before heard (run ∷ runs) rs taken =
     ∷ chosen_before heard runs (drop n rs) (drop n taken)
 
 abbrev pub known_now : Merge → Bool → List Chosen
-known_now m adopt = chosen_now m.file m.policy adopt m.runs m.records m.states
+known_now m adopt = chosen_now m.file m.policy adopt m.runs m.records m.standings
 
 abbrev pub known_before : Merge → List Chosen
 known_before m = chosen_before (heard m.runs) m.before m.known m.taken
 
 -- the runs of the known log, tool by tool
 abbrev pub runs_known : Merge → Knowing → List Chosen
-runs_known m knowing = known_runs (known_now m (adopts knowing)) (known_before m)
+runs_known m knowing =
+    known_runs m.matching (known_now m (adopts knowing)) (known_before m)
 
 -- the known log, as it is given
 abbrev pub remembered : Merge → Knowing → KnownLog

@@ -5,7 +5,9 @@ use Rattle.sarif_model.specs.declared.kinds.State.{State}
 use Rattle.sarif_model.specs.declared.record.Record.{Record}
 use Rattle.sarif_model.specs.Run.{present, results_of}
 use Rattle.sarif_options.specs.declared.policy.Policy.{Policy}
+use Rattle.sarif_match.specs.declared.version.MatchingVersion.{MatchingVersion}
 use Rattle.sarif_entries.specs.File.{File}
+use Rattle.sarif_known.specs.declared.standing.Standing.{Standing}
 
 pub record Merge : Type 0 where
   -- the suppression file as it was read, and its bytes if there is one
@@ -13,10 +15,14 @@ pub record Merge : Type 0 where
   pub bytes : Option (List ℕ)
   -- the policy of the gate
   pub policy : Policy
+  -- the version by which the results were matched
+  pub matching : MatchingVersion
   -- the input runs, the records of all their results in order, and the baseline states of these
   pub runs : List Data
   pub records : List Record
   pub states : List State
+  -- the same states, and whether they are doubtful
+  pub standings : List Standing
   -- the runs of the baselines, the records of their results that are not already absent, and which of these are the
   -- match of a current result
   pub before : List Data

@@ -8,6 +8,7 @@ use Rattle.sarif_options.specs.declared.upkeep.Renewal.{Renewal}
 use Rattle.sarif_options.specs.declared.upkeep.Upkeep.{Upkeep}
 use Rattle.sarif_known.specs.KnownLog.{known_log}
 use Rattle.sarif_known.specs.Laws.{CanBeRead}
+use Rattle.sarif_runs.specs.declared.run_options.RecordOptions.{RecordOptions}
 use Rattle.sarif_upkeep.specs.Known.{runs_known}
 use Rattle.sarif_upkeep.specs.Merge.{Merge}
 use Rattle.sarif_upkeep.specs.Renewed.{rules_after}
@@ -16,10 +17,10 @@ use Rattle.sarif_upkeep.specs.Renewed.{rules_after}
 abbrev pub IsNewFile : Merge → Renewal → List ℕ → Type 0
 IsNewFile m renewal text = json_of (without_mark text) ≡ Some (rules_after m renewal)
 
--- the text is read as the known log, if its records are those of results that were read
+-- the text is read as the known log, if its records are those of results that were read with the same options
 abbrev pub IsKnownLog : Merge → Knowing → List ℕ → Type 0
 IsKnownLog m knowing text =
-    CanBeRead (runs_known m knowing)
+    (options : RecordOptions) → CanBeRead options (runs_known m knowing)
     → json_of (without_mark text) ≡ Some (known_log (runs_known m knowing))
 
 -- each file that was requested is read as it is defined

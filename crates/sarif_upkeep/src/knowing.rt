@@ -41,26 +41,26 @@ fn split_results<'a, 's>(
     count: usize,
 ) -> (Results<'a, 's>, Results<'a, 's>)
     requires few { count ≤ length results.records.now }
-    requires states { length results.states.now ≡ length results.records.now }
+    requires standings { length results.standings.now ≡ length results.records.now }
     requires drafts { length results.drafts.now ≡ length results.records.now }
     ensures records { result.0.records.now ≡ take count results.entry.records.now }
-    ensures states { result.0.states.now ≡ take count results.entry.states.now }
+    ensures standings { result.0.standings.now ≡ take count results.entry.standings.now }
     ensures drafts { result.0.drafts.now ≡ take count results.entry.drafts.now }
     ensures other_records { result.1.records.now ≡ drop count results.entry.records.now }
-    ensures other_states { result.1.states.now ≡ drop count results.entry.states.now }
+    ensures other_standings { result.1.standings.now ≡ drop count results.entry.standings.now }
     ensures other_drafts { result.1.drafts.now ≡ drop count results.entry.drafts.now }
 {
     let (records, other_records) = results.records.split_at(count);
-    let (states, other_states) = results.states.split_at(count);
+    let (standings, other_standings) = results.standings.split_at(count);
     let (drafts, other_drafts) = results.drafts.split_at(count);
     let these = Results {
         records,
-        states,
+        standings,
         drafts,
     };
     let others = Results {
         records: other_records,
-        states: other_states,
+        standings: other_standings,
         drafts: other_drafts,
     };
     (these, others)
@@ -76,12 +76,12 @@ fn known_now<'m>(
     requires few { length results.records.now ≤ most_results }
     requires records { length results.records.now
         ≡ results_total (run_values (map placed_of runs.now)) }
-    requires states { length results.states.now ≡ length results.records.now }
+    requires standings { length results.standings.now ≡ length results.records.now }
     requires drafts { map (λ draft. draft.applied) results.drafts.now
         ≡ map (applied_of choice.now.file.now) results.records.now }
     ensures { IfOk result (λ chosen. all_chosen chosen.items
         ≡ said.chosen_now choice.now.file.now choice.now.policy choice.now.adopt
-        (run_values (map placed_of runs.now)) results.entry.records.now results.entry.states.now) }
+        (run_values (map placed_of runs.now)) results.entry.records.now results.entry.standings.now) }
 {
     let mut rest = results;
     let mut chosen = Vec::with_capacity(alloc, runs.len())?;
@@ -164,14 +164,14 @@ pub(crate) fn remember(
     let current = &matched.current;
     let results = Results {
         records: current.records,
-        states: current.states,
+        standings: current.standings,
         drafts: current.drafts,
     };
     let now = known_now(alloc, &choice, current.runs, results)?;
     let before = known_before(alloc, &matched.before, &heard)?;
     let chosen = count_results(&now);
     let kept = count_results(&before);
-    let text = known_text(alloc, seed, now, before)?;
+    let text = known_text(alloc, seed, matched.matching, now, before)?;
     Ok(KnownLog {
         text: Text::from_string(text)?,
         known: (chosen + kept) as u32,

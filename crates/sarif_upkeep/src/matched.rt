@@ -1,4 +1,6 @@
 //! A merge whose results are matched.
+use sarif_known::Standing;
+use sarif_match::MatchingVersion;
 use sarif_model::{Record, State};
 use sarif_options::Policy;
 use sarif_results::Draft;
@@ -16,6 +18,8 @@ pub struct Current<'m, 't: 'm, 'a: 't> {
     pub drafts: &'m [Draft],
     /// Their baseline states.
     pub states: &'m [State],
+    /// The same states, and whether they are doubtful.
+    pub standings: &'m [Standing],
 }
 
 /// The results of the baselines that are not already absent.
@@ -40,6 +44,8 @@ pub struct Matched<'m, 't: 'm, 'a: 't> {
     pub bytes: Option<&'m [u8]>,
     /// What the gate fails on.
     pub policy: Policy,
+    /// The version by which the results were matched.
+    pub matching: MatchingVersion,
     /// The results of the input runs.
     pub current: Current<'m, 't, 'a>,
     /// The results of the baselines.

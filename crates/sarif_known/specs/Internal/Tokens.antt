@@ -7,7 +7,7 @@ use Rattle.serde_json.specs.Written.{outline}
 use Rattle.sarif_model.specs.declared.record.Record.{Record}
 use Rattle.sarif_model.specs.Written.{Row, list_if_any}
 use Rattle.sarif_model.specs.Guid.{guid_text}
-use Rattle.sarif_known.specs.KnownResult.{kind_unless_fail, level_if_fail, locations_for}
+use Rattle.sarif_known.specs.KnownResult.{kind_unless_fail, level_if_fail, locations_for, region_for}
 use Rattle.sarif_known.specs.KnownRun.{artifact_at, bases_alone, tool_named}
 use Rattle.sarif_known.specs.KnownResult.{message_rows, object_from, suppression_for, texts_if_any, unless_empty}
 
@@ -59,8 +59,10 @@ opened =
     key (codes "locations") ∷ begin_array ∷ begin_object
     ∷ key (codes "physicalLocation") ∷ begin_object ∷ key (codes "artifactLocation") ∷ begin_object ∷ []
 
-abbrev pub closed : List Token
-closed = end_object ∷ end_object ∷ end_object ∷ end_array ∷ []
+-- the rest of it, with this region
+abbrev pub closed : Option Data → List Token
+closed region =
+    end_object ∷ (value_tokens (codes "region") region ++ end_object ∷ end_object ∷ end_array ∷ [])
 
 -- the members from `correlationGuid` to `locations`
 abbrev pub first_tokens : Record → Option ℕ → List Token
@@ -69,7 +71,8 @@ first_tokens r artifact =
     ++ (value_tokens (codes "fingerprints") (texts_if_any r.full)
     ++ (value_tokens (codes "kind") (kind_unless_fail r.kind)
     ++ (value_tokens (codes "level") (level_if_fail r.kind r.level)
-    ++ value_tokens (codes "locations") (locations_for r.place artifact))))
+    ++ value_tokens (codes "locations")
+    (locations_for r.place (region_for r.region r.snippet) artifact))))
 
 -- the members from `message` to `suppressions`
 abbrev pub last_tokens : Record → List Token

@@ -22,8 +22,10 @@ pub record IsCurrent (m : Merge) (current : Current) : Type 0 where
   pub records : current.records.now ≡ m.records
   pub drafts : map (λ draft. draft.applied) current.drafts.now ≡ map (applied_of m.file) m.records
   pub states : current.states.now ≡ m.states
+  pub standings : current.standings.now ≡ m.standings
   pub records_long : length m.records ≡ results_total m.runs
   pub states_long : length m.states ≡ length m.records
+  pub standings_long : length m.standings ≡ length m.records
   pub few : length m.records ≤ most_results
 
 -- the results of the baselines
@@ -41,5 +43,6 @@ pub record IsMatched (m : Merge) (matched : Matched) : Type 0 where
   pub bytes : option_map (λ b. b.now) matched.bytes ≡ m.bytes
   pub read : IsFileOf m.bytes m.file
   pub policy : matched.policy ≡ m.policy
+  pub matching : matched.matching ≡ m.matching
   pub current : IsCurrent m matched.current
   pub before : IsBefore m matched.before

@@ -11,11 +11,12 @@ use Rattle.sarif_known.proofs.LogBack.{text_read}
 use Rattle.sarif_known.proofs.known_log.known_text.Goals as goal
 
 pub returns-clause-reads : goal.returns-clause-reads
-returns-clause-reads c = λ can.
-    let runs : List Chosen = known_runs (all_chosen c.args.current.items) (all_chosen c.args.baseline.items) in
+returns-clause-reads c = λ options can.
+    let runs : List Chosen = known_runs c.args.version (all_chosen c.args.current.items) (all_chosen c.args.baseline.items) in
     let all : all_chosen c.deref.result.now ≡ runs = ap all_chosen c.deref.ensures.value ∙ c.in_ok-runs.ensures in
     let text : List ℕ = string_bytes c.in_ok-text.text in
     let bytes : string_bytes c.push_str.new.self ≡ text ++ 10 ∷ [] = c.in_ok-push_str.ensures.bytes in
     let utf8 : IsUtf8 (text ++ 10 ∷ []) = subst IsUtf8 bytes (IsUtf8-had (string_bytes c.push_str.new.self) c.push_str.new.self.ok) in
     ap (λ b. json_of (without_mark b)) bytes
-    ∙ text_read runs text can (c.in_ok-text.ensures.text ∙ ap (λ r. pretty_text (known_log r)) all) (c.in_ok-text.ensures.tokens ∙ ap (λ r. data_tokens (known_log r)) all) utf8
+    ∙ text_read options runs text can (c.in_ok-text.ensures.text ∙ ap (λ r. pretty_text (known_log r)) all)
+    (c.in_ok-text.ensures.tokens ∙ ap (λ r. data_tokens (known_log r)) all) utf8

@@ -9,6 +9,8 @@ use Rattle.sarif_known.proofs.known_log.push_runs.Goals as goal
 pub returns-in-Err-clause-lost : goal.returns-in-Err-clause-lost
 returns-in-Err-clause-lost c =
     let these : drop c.loop-run.run-index c.args.runs.now ≡ c.run-item.result ∷ drop (c.loop-run.run-index + 1) c.args.runs.now =
-    drop_more c.args.runs.now c.loop-run.run-index c.run-item.result c.loop-run-test.true ∙ ap (λ x. x ∷ drop (c.loop-run.run-index + 1) c.args.runs.now) (sym c.run-item.is) in
-    runs_lost c.loop-run.out (c.args.out.now ++ each_tokens (map known_run (all_chosen c.args.runs.now))) (chosen_of c.run-item.result) (all_chosen (drop (c.loop-run.run-index + 1) c.args.runs.now)) c.in-Err.fault
+    drop_more c.args.runs.now c.loop-run.run-index c.run-item.result c.loop-run-test.true
+    ∙ ap (λ x. x ∷ drop (c.loop-run.run-index + 1) c.args.runs.now) (sym c.run-item.is) in
+    runs_lost c.loop-run.out (c.args.out.now ++ each_tokens (map known_run (all_chosen c.args.runs.now))) (chosen_of c.run-item.result)
+    (all_chosen (drop (c.loop-run.run-index + 1) c.args.runs.now)) c.in-Err.fault
     (ap (λ rs. c.loop-run.out ++ each_tokens (map known_run (all_chosen rs))) (sym these) ∙ c.loop-run.invariant) c.in-Err.ensures.lost

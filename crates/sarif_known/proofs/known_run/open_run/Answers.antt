@@ -13,5 +13,7 @@ returns-in-Err-clause-lost c =
 
 pub returns-clause-added : goal.returns-clause-added
 returns-clause-added c =
-    four c.args.out.now (begin_object ∷ []) (value_tokens (codes "artifacts") (list_if_any (map artifact_at (bases_alone (map (λ r. r.now) c.args.records.now))))) (key (codes "results") ∷ []) (begin_array ∷ [])
+    four c.args.out.now (begin_object ∷ [])
+    (value_tokens (codes "artifacts") (list_if_any (map artifact_at (bases_alone (map (λ r. r.now) c.args.records.now)))))
+    (key (codes "results") ∷ []) (begin_array ∷ [])
     _ _ _ _ c.in_ok-token.ensures c.in_default.ensures.added c.in_ok-token-2.ensures c.in_ok-token-3.ensures

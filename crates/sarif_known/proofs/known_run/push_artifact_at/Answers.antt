@@ -7,5 +7,6 @@ use Rattle.sarif_known.proofs.known_run.push_artifact_at.Goals as goal
 
 pub returns : goal.returns
 returns c =
-    four c.args.out.now (begin_object ∷ []) (key (codes "location") ∷ []) (data_tokens (object (member (codes "uriBaseId") (string c.args.base.now) no_members))) (end_object ∷ [])
+    four c.args.out.now (begin_object ∷ []) (key (codes "location") ∷ [])
+    (data_tokens (object (member (codes "uriBaseId") (string c.args.base.now) no_members))) (end_object ∷ [])
     _ _ _ _ c.in_ok-token.ensures c.in_ok-token-2.ensures c.in_ok-push_object_of.ensures c.in_ok-token-3.ensures

@@ -14,7 +14,8 @@ returns-in-Err-clause-lost c =
     let r : Record = c.found-item.result.now in
     let whole : List Token = c.args.out.now ++ each_tokens (map artifact_at (bases_alone (map (λ r. r.now) c.args.records.now))) in
     let these : drop c.loop-found.found-index c.args.records.now ≡ c.found-item.result ∷ drop (c.loop-found.found-index + 1) c.args.records.now =
-    drop_more c.args.records.now c.loop-found.found-index c.found-item.result c.loop-found-test.true ∙ ap (λ x. x ∷ drop (c.loop-found.found-index + 1) c.args.records.now) (sym c.found-item.is) in
+    drop_more c.args.records.now c.loop-found.found-index c.found-item.result c.loop-found-test.true
+    ∙ ap (λ x. x ∷ drop (c.loop-found.found-index + 1) c.args.records.now) (sym c.found-item.is) in
     let so_far : c.loop-found.out ++ each_tokens (map artifact_at (bases_alone (r ∷ rs))) ≡ whole =
     ap (λ xs. c.loop-found.out ++ each_tokens (map artifact_at (bases_alone (map (λ r. r.now) xs)))) (sym these) ∙ c.loop-found.invariant.added in
     part_lost (c.loop-found.out ++ data_tokens (artifact_at c.in-Some.base.now)) (each_tokens (map artifact_at (bases_alone rs))) whole c.in-Err.fault

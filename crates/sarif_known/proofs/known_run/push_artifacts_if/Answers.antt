@@ -16,5 +16,6 @@ returns-clause-added c =
 
 pub returns-in-Err-clause-lost : goal.returns-in-Err-clause-lost
 returns-in-Err-clause-lost c =
-    artifacts_lost c.args.out.now c.token.new.self c.token-2.new.self (bases_alone (map (λ r. r.now) c.args.records.now)) c.in-Err.fault (sym c.none_alone.ensures ∙ c.if-none_alone.false)
+    artifacts_lost c.args.out.now c.token.new.self c.token-2.new.self (bases_alone (map (λ r. r.now) c.args.records.now)) c.in-Err.fault
+    (sym c.none_alone.ensures ∙ c.if-none_alone.false)
     c.in_ok-token.ensures c.in_ok-token-2.ensures c.in-Err.ensures.lost

@@ -15,10 +15,14 @@ returns-then-is_long-clause-lost c =
     let r : Record = c.found-item.result.now in
     let whole : List Token = c.args.out.now ++ each_tokens (results_from 0 (map (λ r. r.now) c.args.records.now)) in
     let these : drop c.loop-found.found-index c.args.records.now ≡ c.found-item.result ∷ drop (c.loop-found.found-index + 1) c.args.records.now =
-    drop_more c.args.records.now c.loop-found.found-index c.found-item.result c.loop-found-test.true ∙ ap (λ x. x ∷ drop (c.loop-found.found-index + 1) c.args.records.now) (sym c.found-item.is) in
-    let so_far : c.loop-found.out ++ each_tokens (results_from c.loop-found.next (r ∷ rs)) ≡ whole = ap (λ xs. c.loop-found.out ++ each_tokens (results_from c.loop-found.next (map (λ r. r.now) xs))) (sym these) ∙ c.loop-found.invariant.added in
+    drop_more c.args.records.now c.loop-found.found-index c.found-item.result c.loop-found-test.true
+    ∙ ap (λ x. x ∷ drop (c.loop-found.found-index + 1) c.args.records.now) (sym c.found-item.is) in
+    let so_far : c.loop-found.out ++ each_tokens (results_from c.loop-found.next (r ∷ rs)) ≡ whole =
+    ap (λ xs. c.loop-found.out ++ each_tokens (results_from c.loop-found.next (map (λ r. r.now) xs))) (sym these)
+    ∙ c.loop-found.invariant.added in
     front_lost c.push_result.new.out _ whole c.too_long.result
-    (step_results c.loop-found.out c.push_result.new.out whole c.loop-found.next r rs c.artifact_number.result c.artifact_number.ensures c.in_ok-push_result.ensures so_far)
+    (step_results c.loop-found.out c.push_result.new.out whole c.loop-found.next r rs c.artifact_number.result c.artifact_number.ensures
+    c.in_ok-push_result.ensures so_far)
     c.too_long.ensures (long_enough c.push_result.new.out (sym c.is_long.ensures ∙ c.if-is_long.true))
 
 pub loop-found-preserved : goal.loop-found-preserved
@@ -27,9 +31,13 @@ loop-found-preserved c =
     let r : Record = c.found-item.result.now in
     let whole : List Token = c.args.out.now ++ each_tokens (results_from 0 (map (λ r. r.now) c.args.records.now)) in
     let these : drop c.loop-found.found-index c.args.records.now ≡ c.found-item.result ∷ drop (c.loop-found.found-index + 1) c.args.records.now =
-    drop_more c.args.records.now c.loop-found.found-index c.found-item.result c.loop-found-test.true ∙ ap (λ x. x ∷ drop (c.loop-found.found-index + 1) c.args.records.now) (sym c.found-item.is) in
-    let so_far : c.loop-found.out ++ each_tokens (results_from c.loop-found.next (r ∷ rs)) ≡ whole = ap (λ xs. c.loop-found.out ++ each_tokens (results_from c.loop-found.next (map (λ r. r.now) xs))) (sym these) ∙ c.loop-found.invariant.added in
-    let more = step_results c.loop-found.out c.push_result.new.out whole c.loop-found.next r rs c.artifact_number.result c.artifact_number.ensures c.in_ok-push_result.ensures so_far in
+    drop_more c.args.records.now c.loop-found.found-index c.found-item.result c.loop-found-test.true
+    ∙ ap (λ x. x ∷ drop (c.loop-found.found-index + 1) c.args.records.now) (sym c.found-item.is) in
+    let so_far : c.loop-found.out ++ each_tokens (results_from c.loop-found.next (r ∷ rs)) ≡ whole =
+    ap (λ xs. c.loop-found.out ++ each_tokens (results_from c.loop-found.next (map (λ r. r.now) xs))) (sym these)
+    ∙ c.loop-found.invariant.added in
+    let more = step_results c.loop-found.out c.push_result.new.out whole c.loop-found.next r rs c.artifact_number.result
+    c.artifact_number.ensures c.in_ok-push_result.ensures so_far in
     record {
       added = ap (λ n. c.push_result.new.out ++ each_tokens (results_from n rs)) c.next_number-next.ensures.value ∙ more;
       short = λ _. short_enough c.push_result.new.out (sym c.is_long.ensures ∙ c.if-is_long.false);

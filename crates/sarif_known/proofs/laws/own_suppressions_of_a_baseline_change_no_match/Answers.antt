@@ -3,6 +3,6 @@ use Rattle.sarif_known.proofs.laws.own_suppressions_of_a_baseline_change_no_matc
 
 pub returns : goal.returns
 returns c = record {
-  partners = λ cs bs others are. same_partners cs bs others are;
-  states = λ r bs others partner are. same_states r bs others partner are;
+  partners = λ v cs bs others are. same_partners v cs bs others are;
+  states = λ v r bs others partner are. same_states v r bs others partner are;
 }

@@ -4,6 +4,6 @@ use Rattle.sarif_known.proofs.laws.what_is_known_is_read_again.Goals as goal
 
 pub returns : goal.returns
 returns c = record {
-  log = λ allow runs text can is. log_back allow runs text can is;
-  records = λ runs placed can alike are. known_again runs placed alike are can.each can.few_results;
+  log = λ options allow runs text can is. log_back options allow runs text can is;
+  records = λ options runs placed can alike are. known_again options runs placed alike are can.each can.few_results;
 }

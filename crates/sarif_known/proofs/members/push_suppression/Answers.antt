@@ -8,5 +8,6 @@ use Rattle.sarif_known.proofs.members.push_suppression.Goals as goal
 
 pub returns : goal.returns
 returns c =
-    four c.args.out.now (begin_object ∷ []) (value_tokens (codes "kind") (Some (string (codes "external")))) (value_tokens (codes "status") (Some (string (status_name c.args.status)))) (end_object ∷ [])
+    four c.args.out.now (begin_object ∷ []) (value_tokens (codes "kind") (Some (string (codes "external"))))
+    (value_tokens (codes "status") (Some (string (status_name c.args.status)))) (end_object ∷ [])
     _ _ _ _ c.in_ok-token.ensures c.in_ok-push_text.ensures (rw (← c.name.ensures) c.in_ok-push_text-2.ensures) c.in_ok-token-2.ensures

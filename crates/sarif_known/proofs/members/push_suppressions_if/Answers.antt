@@ -9,5 +9,7 @@ pub returns : goal.returns
 returns c =
     let some : (length c.args.held.now == 0) ≡ false = ap (λ l. length l == 0) (sym c.as_slice-held.ensures) ∙ sym c.is_empty.ensures ∙ c.if-is_empty.false in
     four c.args.out.now (key (codes "suppressions") ∷ []) (begin_array ∷ []) (each_tokens (map suppression_for c.args.held.now)) (end_array ∷ [])
-    _ _ _ _ c.in_ok-token.ensures c.in_ok-token-2.ensures (c.in_ok-push_suppressions.ensures ∙ ap (λ l. c.token-2.new.self ++ each_tokens (map suppression_for l)) c.as_slice-held.ensures) c.in_ok-token-3.ensures
+    _ _ _ _ c.in_ok-token.ensures c.in_ok-token-2.ensures
+    (c.in_ok-push_suppressions.ensures ∙ ap (λ l. c.token-2.new.self ++ each_tokens (map suppression_for l)) c.as_slice-held.ensures)
+    c.in_ok-token-3.ensures
     ∙ ap (λ ts. c.args.out.now ++ ts) (sym (list_tokens (codes "suppressions") suppression_for c.args.held.now some))

@@ -12,8 +12,11 @@ loop-run-preserved-in-Continue-1 c =
     record {
       added =
           ap (λ l. side_by_side l (map (runs_of_tool (all_chosen c.next.new.self.rest.items)) (texts_of c.args.tools.now.keys))) c.in_ok-add_run.ensures.added
-          ∙ step_groups (chosen_of c.in-Some.run') (some_records c.in-Some.run' some) (all_chosen c.next.new.self.rest.items) [] (texts_of c.args.tools.now.keys) (groups_of c.loop-run.groups.items) c.requires.apart
-          ∙ ap (λ rs. side_by_side (groups_of c.loop-run.groups.items) (map (runs_of_tool (all_chosen rs)) (texts_of c.args.tools.now.keys))) (sym c.in-Some.ensures.steps.0)
+          ∙ step_groups (chosen_of c.in-Some.run') (some_records c.in-Some.run' some) (all_chosen c.next.new.self.rest.items) []
+          (texts_of c.args.tools.now.keys) (groups_of c.loop-run.groups.items) c.requires.apart
+          ∙ ap
+          (λ rs. side_by_side (groups_of c.loop-run.groups.items) (map (runs_of_tool (all_chosen rs)) (texts_of c.args.tools.now.keys)))
+          (sym c.in-Some.ensures.steps.0)
           ∙ c.loop-run.invariant.added;
       count = c.in_ok-add_run.ensures.count ∙ c.loop-run.invariant.count;
     }

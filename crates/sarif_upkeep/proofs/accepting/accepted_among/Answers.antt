@@ -13,7 +13,8 @@ loop-number-preserved c =
     let in_drafts : n < length drafts = omega (arith, within, c.requires.drafts) in
     let in_states : n < length states = omega (arith, within, c.requires.states) in record {
       accepted = λ file same.
-          let applied = applied_at file rs drafts n c.index-records-number.result _ c.index-drafts-number.result _ within in_drafts c.index-records-number.is c.index-drafts-number.is same in
+          let applied = applied_at file rs drafts n c.index-records-number.result _ c.index-drafts-number.result _ within in_drafts
+          c.index-records-number.is c.index-drafts-number.is same in
           accepted_next (may_hit c.args.policy) file rs states n c.index-records-number.result _ _ _ (map (λ r. r.now) c.loop-number.accepted.items) _ _
           within in_states c.index-records-number.is refl (c.in_ok-push_accepted.ensures.pushed file applied) (c.loop-number.invariant.accepted file same);
       few = omega (arith, c.loop-number.invariant.few, c.in_ok-push_accepted.ensures.few);

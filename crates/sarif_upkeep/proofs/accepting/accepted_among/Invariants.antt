@@ -7,6 +7,7 @@ use Rattle.sarif_upkeep.proofs.accepting.accepted_among.Given as goal
 abbrev pub invariant-loop-number : goal.invariant-loop-number
 invariant-loop-number l = record {
   accepted : (file : File) → map (λ draft. draft.applied) l.drafts ≡ map (applied_of file) l.records
-      → map (λ r. r.now) l.accepted.items ++ accepted_among (may_hit l.policy) file (drop l.number l.records) (drop l.number l.states) ≡ accepted_among (may_hit l.policy) file l.records l.states;
+      → map (λ r. r.now) l.accepted.items ++ accepted_among (may_hit l.policy) file (drop l.number l.records) (drop l.number l.states)
+      ≡ accepted_among (may_hit l.policy) file l.records l.states;
   few : length l.accepted.items ≤ l.number;
 }

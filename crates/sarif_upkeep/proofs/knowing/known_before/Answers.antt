@@ -30,7 +30,8 @@ loop-number-preserved c =
     let many : length l.records.now ≡ length (present (results_of run)) + present_total (run_values (map placed_of (drop (l.number + 1) runs))) =
     l.invariant.records ∙ ap present_total left in
     let records_left : length c.split_at.result.1.now ≡ length l.records.now - k = ap length c.split_at.ensures.back ∙ length-drop k l.records.now in
-    let taken_left : length c.split_at-in-loop-number.result.1.now ≡ length l.taken.now - k = ap length c.split_at-in-loop-number.ensures.back ∙ length-drop k l.taken.now in record {
+    let taken_left : length c.split_at-in-loop-number.result.1.now ≡ length l.taken.now - k =
+    ap length c.split_at-in-loop-number.ensures.back ∙ length-drop k l.taken.now in record {
       few = omega (arith, records_left, l.invariant.few);
       records = omega (arith, records_left, many, count);
       taken = omega (arith, records_left, taken_left, l.invariant.taken);
@@ -38,6 +39,9 @@ loop-number-preserved c =
           before_next (heard_of c.args.heard.now) _ run _ l.records.now _ l.taken.now _ k
           (all_chosen l.chosen.items) (chosen_of c.in_ok-keep_run.field-0) _ _
           left count c.split_at.ensures.back c.split_at-in-loop-number.ensures.back
-          (c.in_ok-keep_run.ensures ∙ kept_same _ _ _ _ _ _ _ _ (c.hears-is_heard.ensures ∙ ap (λ t. heard_of c.args.heard.now (Some t)) c.tool.ensures) c.tool-in-loop-number.ensures c.split_at.ensures.front c.split_at-in-loop-number.ensures.front)
+          (c.in_ok-keep_run.ensures
+          ∙ kept_same _ _ _ _ _ _ _ _
+          (c.hears-is_heard.ensures ∙ ap (λ t. heard_of c.args.heard.now (Some t)) c.tool.ensures) c.tool-in-loop-number.ensures
+          c.split_at.ensures.front c.split_at-in-loop-number.ensures.front)
           (chosen_push l.chosen.items c.in_ok-keep_run.field-0 _ (search rules)) l.invariant.chosen;
     }

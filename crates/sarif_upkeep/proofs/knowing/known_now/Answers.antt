@@ -20,15 +20,19 @@ loop-run-preserved c =
     let left = runs_left c.args.runs.now l.run-index c.run-item.result _ c.loop-run-test.true c.run-item.is in
     let many : length l.rest.records.now ≡ length (results_of run) + results_total (run_values (map placed_of (drop (l.run-index + 1) c.args.runs.now))) =
     l.invariant.records ∙ ap results_total left in
-    let records_left : length c.split_results.result.1.records.now ≡ length l.rest.records.now - k = ap length s.other_records ∙ length-drop k l.rest.records.now in
-    let states_left : length c.split_results.result.1.states.now ≡ length l.rest.states.now - k = ap length s.other_states ∙ length-drop k l.rest.states.now in record {
+    let records_left : length c.split_results.result.1.records.now ≡ length l.rest.records.now - k = ap length s.other_records
+    ∙ length-drop k l.rest.records.now in
+    let states_left : length c.split_results.result.1.standings.now ≡ length l.rest.standings.now - k = ap length s.other_standings
+    ∙ length-drop k l.rest.standings.now in record {
       few = omega (arith, records_left, l.invariant.few);
       records = omega (arith, records_left, many, c.len.ensures.count);
-      states = omega (arith, records_left, states_left, l.invariant.states);
+      standings = omega (arith, records_left, states_left, l.invariant.standings);
       drafts = applied_back c.args.choice.now.file.now _ _ _ _ k l.invariant.drafts s.other_records s.other_drafts;
       chosen =
-          now_next c.args.choice.now.file.now c.args.choice.now.policy c.args.choice.now.adopt _ run _ l.rest.records.now _ l.rest.states.now _ k
+          now_next c.args.choice.now.file.now c.args.choice.now.policy c.args.choice.now.adopt _ run _ l.rest.records.now _ l.rest.standings.now _ k
           (all_chosen l.chosen.items) (chosen_of c.in_ok-know_run.field-0) _ _
-          left c.len.ensures.count s.other_records s.other_states
-          (c.in_ok-know_run.ensures ∙ known_same c.args.choice.now.file.now c.args.choice.now.policy c.args.choice.now.adopt _ _ _ _ _ _ c.tool.ensures s.records s.states) (chosen_push l.chosen.items c.in_ok-know_run.field-0 _ (search rules)) l.invariant.chosen;
+          left c.len.ensures.count s.other_records s.other_standings
+          (c.in_ok-know_run.ensures
+          ∙ known_same c.args.choice.now.file.now c.args.choice.now.policy c.args.choice.now.adopt _ _ _ _ _ _ c.tool.ensures s.records
+          s.standings) (chosen_push l.chosen.items c.in_ok-know_run.field-0 _ (search rules)) l.invariant.chosen;
     }

@@ -12,9 +12,9 @@ abbrev pub invariant-loop-run : goal.invariant-loop-run
 invariant-loop-run l = record {
   few : length l.rest.records.now ≤ most_results;
   records : length l.rest.records.now ≡ results_total (run_values (map placed_of (drop l.run-index l.runs)));
-  states : length l.rest.states.now ≡ length l.rest.records.now;
+  standings : length l.rest.standings.now ≡ length l.rest.records.now;
   drafts : map (λ draft. draft.applied) l.rest.drafts.now ≡ map (applied_of l.choice.file.now) l.rest.records.now;
   chosen : all_chosen l.chosen.items
-      ++ chosen_now l.choice.file.now l.choice.policy l.choice.adopt (run_values (map placed_of (drop l.run-index l.runs))) l.rest.records.now l.rest.states.now
-      ≡ chosen_now l.choice.file.now l.choice.policy l.choice.adopt (run_values (map placed_of l.runs)) l.fn.results.records.now l.fn.results.states.now;
+      ++ chosen_now l.choice.file.now l.choice.policy l.choice.adopt (run_values (map placed_of (drop l.run-index l.runs))) l.rest.records.now l.rest.standings.now
+      ≡ chosen_now l.choice.file.now l.choice.policy l.choice.adopt (run_values (map placed_of l.runs)) l.fn.results.records.now l.fn.results.standings.now;
 }

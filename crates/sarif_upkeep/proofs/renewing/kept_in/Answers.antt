@@ -15,7 +15,8 @@ returns-clause-kept c = λ m is.
     let drafts = is.current.drafts ∙ ap (λ f. map (applied_of f) m.records) (sym is.file) in
     let heard_is = c.in_ok-heard.ensures ∙ ap (map tool_run) is.current.runs in
     IfOk-weaker c.kept_entries.result _ (λ kept. kept.items ≡ kept_in m c.args.renewal.now)
-    (λ kept found. found ∙ ap (λ h. map (is_kept prune (heard_of h) file m.records) file.entries) heard_is ∙ ap (λ f. map (is_kept prune (heard m.runs) f m.records) f.entries) is.file)
+    (λ kept found. found ∙ ap (λ h. map (is_kept prune (heard_of h) file m.records) file.entries) heard_is
+    ∙ ap (λ f. map (is_kept prune (heard m.runs) f m.records) f.entries) is.file)
     (c.kept_entries.ensures m.records (c.in_ok-marks.ensures m.records drafts))
 
 pub returns-clause-count : goal.returns-clause-count

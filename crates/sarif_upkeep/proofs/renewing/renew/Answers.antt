@@ -36,7 +36,9 @@ returns-clause-made c = λ m is.
     let added = added_count m renewal bytes c.deref-2.result.now c.deref.result.now c.deref-3.result.now is.bytes kept_is accepted_is added_is in
     let left = c.count_kept-left.ensures.count ∙ ap (count_by (λ mark. mark)) (c.deref-4.ensures.value ∙ c.in_ok-kept.ensures.kept m is) in
     let text =
-    c.in_ok-text.ensures.text ∙ ap file_text (file_is m renewal bytes c.deref-2.result.now c.deref.result.now c.deref-3.result.now is.bytes kept_is accepted_is added_is) in
+    c.in_ok-text.ensures.text
+    ∙ ap file_text
+    (file_is m renewal bytes c.deref-2.result.now c.deref.result.now c.deref-3.result.now is.bytes kept_is accepted_is added_is) in
     let accepted_now = ap length c.deref.ensures.value in
     let added_now = ap length c.deref-3.ensures.value in
     let many = kept_long m renewal in

@@ -8,6 +8,7 @@ use Rattle.sarif_upkeep.proofs.staying.staying_among.Given as goal
 abbrev pub invariant-loop-number : goal.invariant-loop-number
 invariant-loop-number l = record {
   counted : (file : File) → map (λ draft. draft.applied) l.drafts ≡ map (applied_of file) l.records
-      → l.count + staying_among (may_hit l.policy) file (drop l.number l.records) (drop l.number l.states) ≡ staying_among (may_hit l.policy) file l.records l.states;
+      → l.count + staying_among (may_hit l.policy) file (drop l.number l.records) (drop l.number l.states)
+      ≡ staying_among (may_hit l.policy) file l.records l.states;
   few : l.count ≤ l.number;
 }

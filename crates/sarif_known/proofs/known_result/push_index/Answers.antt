@@ -1,6 +1,0 @@
-use Rattle.std.proofs.Common.{arith}
-use Rattle.json.proofs.Printed.Decimals.{IsNumber-decimal}
-use Rattle.sarif_known.proofs.known_result.push_index.Goals as goal
-
-pub token-requires-2 : goal.token-requires-2
-token-requires-2 c = rw (c.format.ensures.text) (IsNumber-decimal c.args.artifact (omega (arith, c.ranges.artifact)))
