@@ -64,7 +64,7 @@ fn in_words(alloc: Global, lists: &Lists<u32, u32>, is_again: bool) -> Result<St
     Ok(text)
 }
 
-/// The outcome of arrivals of which number 5 is rejected, a close that comes too early and that would allocate.
+/// The outcome of arrivals. Arrival number 5 is rejected: a close that comes too early and that would allocate.
 pub fn collect_arrivals(alloc: Global) -> Result<String, AllocError> {
     let arrivals = vec![in alloc;
         item(0, 4, 14),

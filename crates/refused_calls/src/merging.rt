@@ -33,10 +33,10 @@ impl<'a> MergeInput<'a> {
     }
 }
 
-fn options_by(seed: RandomState) -> Options {
+fn options_by(alloc: Global, seed: RandomState) -> Options {
     Options {
         policy: Policy::default(),
-        checks: Checks::default(),
+        checks: Checks::new(alloc),
         today: None,
         workers: 4,
         seed,
@@ -51,7 +51,7 @@ pub fn merged_bytes<R: Threads + Wait + Sync>(
     text: &str,
 ) -> Result<String, AllocError> {
     let sources = sources_of(alloc, &MergeInput::of(text))?;
-    match merge_bytes(rt, alloc, &sources, &options_by(seed), &NoGate) {
+    match merge_bytes(rt, alloc, &sources, &options_by(alloc, seed), &NoGate) {
         Ok(merged) => String::from_str(alloc, merged.log.as_str()),
         Err(fault) => format!(in alloc; "{fault}"),
     }
@@ -113,7 +113,14 @@ fn write_merged<R: Threads + Wait + Sync>(
     // The writer has its memory before, since without it a write fails.
     let mut taken = Vec::with_capacity(alloc, ROOM)?;
     let mut out = Counted::new(&mut taken);
-    match merge_to(rt, alloc, readers, &mut out, &options_by(seed), &NoGate) {
+    match merge_to(
+        rt,
+        alloc,
+        readers,
+        &mut out,
+        &options_by(alloc, seed),
+        &NoGate,
+    ) {
         Ok(_) => String::from_utf8_lossy(alloc, taken.as_slice()),
         Err(fault) => format!(in alloc; "{fault}"),
     }

@@ -3,7 +3,7 @@ use crate::reading::log_of;
 use sarif_match::{MatchingVersion, key, match_all, tiers};
 use sarif_model::{Fault, Record, Refusal};
 use sarif_read::RawRun;
-use sarif_runs::{make_record, open_run};
+use sarif_runs::{IgnoredNames, RecordOptions, make_record, open_run};
 use std::alloc::{AllocError, Global};
 use std::hash::RandomState;
 
@@ -30,9 +30,13 @@ fn records_of(
     run: &RawRun,
 ) -> Result<Vec<Record>, Refusal<Fault>> {
     let head = open_run(alloc, seed, run)?;
+    let options = RecordOptions {
+        regions: false,
+        ignored: IgnoredNames::new(&[]),
+    };
     let mut records = Vec::new(alloc);
     for seq in 0..run.len() {
-        records.push(make_record(alloc, &head, run, seq, false)?)?;
+        records.push(make_record(alloc, &head, run, seq, &options)?)?;
     }
     Ok(records)
 }

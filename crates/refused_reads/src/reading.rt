@@ -2,7 +2,7 @@
 use sarif_members::Parts;
 use sarif_model::{Fault, Level, Place, Record, Refusal};
 use sarif_read::{Log, ReadFault, read_log, strip};
-use sarif_runs::{Descriptor, make_record, open_run, read_parts};
+use sarif_runs::{Descriptor, IgnoredNames, RecordOptions, make_record, open_run, read_parts};
 use serde_json::Value;
 use std::alloc::{AllocError, Global};
 use std::hash::RandomState;
@@ -116,5 +116,9 @@ pub fn first_record(alloc: Global, seed: RandomState, log: &str) -> Result<Recor
     if run.len() == 0 {
         return Err(Refusal::Fault(Fault::NotLog));
     }
-    make_record(alloc, &head, run, 0, true)
+    let options = RecordOptions {
+        regions: true,
+        ignored: IgnoredNames::new(&[]),
+    };
+    make_record(alloc, &head, run, 0, &options)
 }

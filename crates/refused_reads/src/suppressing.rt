@@ -1,4 +1,4 @@
-//! Suppression files, read for the last day of January 2025.
+//! Suppression files, read for the date 31 January 2025.
 use crate::reading::first_record;
 use sarif_model::Record;
 use sarif_suppress::{Suppressions, read_rules};

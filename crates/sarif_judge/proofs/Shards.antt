@@ -34,10 +34,13 @@ pub all_parts : (file : File) (runs : List Placed) (size shards : ℕ) (spots : 
     → ws ≡ lists_of (λ run. 1) (λ run seq. judged_shard file runs size spots run) (λ run. tt) shards → length spots ≤ shards * size
     → flattened ws ≡ map (outcome_at file runs) spots
 all_parts file runs size shards spots ws is enough =
-    ap flattened is ∙ gathered 0 shards ∙ parts (outcome_at file runs) size spots 0 shards ∙ ap (λ k. map (outcome_at file runs) (take (shards * size) (drop k spots))) none ∙ ap (map (outcome_at file runs)) (take_all (shards * size) spots enough) where
+    ap flattened is ∙ gathered 0 shards ∙ parts (outcome_at file runs) size spots 0 shards
+    ∙ ap (λ k. map (outcome_at file runs) (take (shards * size) (drop k spots))) none
+    ∙ ap (map (outcome_at file runs)) (take_all (shards * size) spots enough) where
       none : 0 * size ≡ 0
       none = omega arith
 
-      gathered : (a n : ℕ) → flattened (map (λ run. whole_run 1 (λ seq. judged_shard file runs size spots run) tt) (range_with_len a n)) ≡ flat_map (λ k. map (outcome_at file runs) (take size (drop (k * size) spots)) ++ []) (range_with_len a n)
+      gathered : (a n : ℕ) → flattened (map (λ run. whole_run 1 (λ seq. judged_shard file runs size spots run) tt) (range_with_len a n))
+          ≡ flat_map (λ k. map (outcome_at file runs) (take size (drop (k * size) spots)) ++ []) (range_with_len a n)
       gathered a zero = refl
       gathered a (suc n) = ap (λ os. (judged_shard file runs size spots a ++ []) ++ os) (gathered (a + 1) n)

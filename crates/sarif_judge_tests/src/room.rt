@@ -118,8 +118,12 @@ fn count_indexed<G: Gate + Sync, R: Threads + Wait + Sync>(
     requires { (logs : List (List ℕ)) × (baselines : List (List ℕ))
         × AreIndexesOf logs baselines indexes.now 1 }
 {
-    let checks = Checks::default();
-    match open_sources(rt, alloc, Opening { checks, seed }, indexes, 1, 1) {
+    let checks = Checks::new(alloc);
+    let opening = Opening {
+        checks: &checks,
+        seed,
+    };
+    match open_sources(rt, alloc, opening, indexes, 1, 1) {
         Ok(runs) => count_judged(rt, alloc, seed, &runs.current, observer),
         Err(_) => Err(Fail::from("not opened")),
     }

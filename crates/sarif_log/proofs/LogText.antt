@@ -1,4 +1,4 @@
--- The text of a log from the texts of its runs.
+-- The JSON of a log from the JSON of its runs.
 use Rattle.std.proofs.Common.{◌≡◌, ◌==◌, ℕ, suc, Bool, true, false, not, List, [], ◌∷◌, ◌++◌, Option, map, take, drop, length, codes, refl, sym, ap, ◌∙◌, append_assoc, arith}
 use Rattle.std.proofs.lemmas.Bool.Decides.{nat_tests}
 use Rattle.serde_json.proofs.OnLiterals.{serde_json_on_literals}
@@ -19,7 +19,7 @@ joined_on (t ∷ ts) us = ap (λ x. 44 ∷ x) (append_assoc t (joined true ts) (
 nonempty : (n : ℕ) → (suc n == 0) ≡ false
 nonempty n = grind (arith, nat_tests)
 
--- texts, followed by others
+-- the JSON of runs, followed by other strings
 pub joined_both : (all : List RunParts) (ds : List Draft) (ss : List (Option State)) (none : Bool) (us : List (List ℕ))
     → none ≡ (length all == 0)
     → joined false (runs_texts all ds ss) ++ joined (not none) us ≡ joined false (runs_texts all ds ss ++ us)

@@ -1,4 +1,4 @@
--- The texts of drafts are those of the written results.
+-- The JSON of drafts is that of the written results.
 use Rattle.std.proofs.Common.{◌≡◌, Bool, true, false, List, [], ◌∷◌, ◌++◌, Some, map, length, codes, refl, ap, ◌∙◌, append_assoc, arith}
 use Rattle.std.specs.List.{AllByRecursion}
 use Rattle.json_parts.proofs.Filled.{filled_is_put}
@@ -49,7 +49,7 @@ texts_unmatched (r ∷ rs) (false ∷ taken) (d ∷ ds) objects =
     ap (λ t. t ∷ texts_of (drafts_by (λ _ own. own) unapplied rs ds) (map unless_taken taken)) (draft_text (λ _ own. own) unapplied r Absent d objects.0)
     ∙ ap (λ ts. compact_text (written (λ _ own. own) r Absent d) ∷ ts) (texts_unmatched rs taken ds objects.1)
 
--- the texts of values with commas between them, and the bracket
+-- the JSON of values with commas between them, and the closing bracket
 pub joined_items : (later : Bool) (ds : List Data) → joined later (map compact_text ds) ++ 93 ∷ [] ≡ items_text later (items_of ds)
 joined_items later [] = refl
 joined_items later (d ∷ ds) =

@@ -1,4 +1,4 @@
--- The texts of runs with their drafts are those of the runs of the merged log.
+-- The JSON of runs with their drafts is that of the runs of the merged log.
 use Rattle.std.proofs.Common.{◌≡◌, ◌+◌, ℕ, Bool, true, false, not, List, [], ◌∷◌, ◌++◌, Option, Some, None, map, take, drop, length, is_some, option_map, unwrap_or, cond, length-append, codes, refl, sym, ap, ◌∙◌, arith}
 use Rattle.std.proofs.lemmas.List.{take-map, drop-map, length-take-le, length-drop}
 use Rattle.std.specs.List.{AllByRecursion, flat_map, list_any}

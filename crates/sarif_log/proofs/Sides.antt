@@ -8,7 +8,8 @@ use Rattle.serde_json.specs.Data.{Data, Items}
 use Rattle.sarif_model.specs.declared.record.Record.{Record}
 use Rattle.sarif_model.specs.Members.{elements}
 use Rattle.sarif_model.specs.Run.{is_absent_result, results_array, results_of, results_total}
-use Rattle.sarif_match.specs.Partners.{partners_of, is_taken}
+use Rattle.sarif_match.specs.declared.version.MatchingVersion.{MatchingVersion}
+use Rattle.sarif_match.specs.Partners.{partners_in, is_taken}
 use Rattle.sarif_suppress.specs.declared.suppressions.Applied.{Applied}
 use Rattle.sarif_runs.specs.Judging.{faults_of_runs, items_of, records_in, records_of, run_faults, skips, run_values}
 use Rattle.sarif_runs.specs.Placed.{Placed}
@@ -54,12 +55,14 @@ few_present (run ∷ runs) =
     let rest = few_present runs in
     omega (arith, joined, here, rest)
 
-pub states_long : (bs : List Record) (ps : List (Option ℕ)) (n : ℕ) (cs : List Record) → length (states_from bs ps n cs) ≡ length cs
-states_long bs ps n [] = refl
-states_long bs ps n (c ∷ cs) = ap suc (states_long bs ps (n + 1) cs)
+pub states_long : (v : MatchingVersion) (bs : List Record) (ps : List (Option ℕ)) (n : ℕ) (cs : List Record)
+    → length (states_from v bs ps n cs) ≡ length cs
+states_long v bs ps n [] = refl
+states_long v bs ps n (c ∷ cs) = ap suc (states_long v bs ps (n + 1) cs)
 
-pub taken_long : (cs bs : List Record) → length (taken_of cs bs) ≡ length bs
-taken_long cs bs = length-map (range_with_len 0 (length bs)) (is_taken (partners_of cs bs)) ∙ length-range_with_len 0 (length bs)
+pub taken_long : (v : MatchingVersion) (cs bs : List Record) → length (taken_of v cs bs) ≡ length bs
+taken_long v cs bs =
+    length-map (range_with_len 0 (length bs)) (is_taken (partners_in v cs bs)) ∙ length-range_with_len 0 (length bs)
 
 -- ---- numbers of results
 

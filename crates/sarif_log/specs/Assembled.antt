@@ -4,6 +4,7 @@ use Rattle.serde_json.specs.Data.{Data}
 use Rattle.serde_json.specs.Written.{compact_text}
 use Rattle.sarif_model.specs.declared.kinds.Level.{Level}
 use Rattle.sarif_model.specs.declared.kinds.State.{State}
+use Rattle.sarif_match.specs.declared.version.MatchingVersion.{MatchingVersion}
 use Rattle.sarif_entries.specs.File.{File}
 use Rattle.sarif_suppress.specs.Suppressing.{unused_of}
 use Rattle.sarif_options.specs.declared.policy.Policy.{Policy}
@@ -32,9 +33,10 @@ pub record IsLogOf (runs : List Data) (policy : Policy) (without unused : ℕ)
   pub log : merged.log ≡ compact_text (log_by runs policy without unused)
   pub gate : HasGate runs policy without unused merged
 
--- the merge of these input runs, these baseline runs and this suppression file, and the findings for its reports
-pub record IsMergedBy (file : File) (current baseline : List Placed) (policy : Policy)
-    (asked : Option Reporting) (merged : Merged) : Type 0 where
-  pub written : IsLogOf (runs_by file current baseline) policy
+-- the merge of these input runs, these baseline runs and this suppression file, matched by this version, and the
+-- findings for its reports
+pub record IsMergedBy (version : MatchingVersion) (file : File) (current baseline : List Placed)
+    (policy : Policy) (asked : Option Reporting) (merged : Merged) : Type 0 where
+  pub written : IsLogOf (runs_by version file current baseline) policy
       (runs_without_results (run_values current)) (unused_of file (records_of current)) merged
-  pub told : merged.findings.items ≡ told_of asked (runs_by file current baseline)
+  pub told : merged.findings.items ≡ told_of asked (runs_by version file current baseline)

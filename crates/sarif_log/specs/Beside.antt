@@ -5,7 +5,7 @@ use Rattle.std.specs.Fn.{FnOnceReturns, Once}
 use Rattle.sarif_log.specs.declared.facts.Facts.{Facts}
 use Rattle.sarif_log.specs.declared.merged.Merged.{Merged}
 
--- these are the facts of that merge
+-- facts are those of that merge
 pub record AreFactsOf (merged : Merged) (facts : Facts) : Type 0 where
   pub counts : facts.counts.now ≡ merged.counts
   pub without : facts.without ≡ merged.without
@@ -18,7 +18,7 @@ abbrev pub IsToldBy : {F R : Type 0} → Once F (Bor Facts × Unit {0}) R → F 
 IsToldBy call tell facts made =
     (told : Bor Facts) × FnOnceReturns call tell (told, tt) made × (told.now ≡ facts)
 
--- the same with the facts of this merge
+-- a call of this function with the facts of this merge may return this
 abbrev pub IsMadeBy : {F R : Type 0} → Once F (Bor Facts × Unit {0}) R → F → Merged → R → Type 0
 IsMadeBy call tell merged made =
     (facts : Facts) × IsToldBy call tell facts made × AreFactsOf merged facts

@@ -5,8 +5,9 @@ use Rattle.serde_json.specs.Data.{Data}
 use Rattle.sarif_model.specs.declared.kinds.State.{State}
 use Rattle.sarif_model.specs.declared.record.Record.{Record}
 use Rattle.sarif_model.specs.Run.{results_array}
-use Rattle.sarif_match.specs.Partners.{partners_of, is_taken}
-use Rattle.sarif_match.specs.State.{state_of}
+use Rattle.sarif_match.specs.declared.version.MatchingVersion.{MatchingVersion}
+use Rattle.sarif_match.specs.Evidence.{state_in}
+use Rattle.sarif_match.specs.Partners.{partners_in, is_taken}
 use Rattle.sarif_entries.specs.File.{File}
 use Rattle.sarif_suppress.specs.Suppressing.{unused_of}
 use Rattle.sarif_suppress.specs.Written.{suppressions_of}
@@ -25,20 +26,22 @@ use Rattle.sarif_log.specs.MergedRuns.{merged_runs, absent_runs}
 abbrev pub partner_in : List Record → Option ℕ → Option Record
 partner_in bs partner = option_and_then (slice_get bs) partner
 
--- the baseline state of each of these current results; the first has number n
-abbrev pub states_from : List Record → List (Option ℕ) → ℕ → List Record → List State
-states_from bs partners n [] = []
-states_from bs partners n (r ∷ rs) =
-    state_of r (partner_in bs (slice_index_or partners n None))
-    ∷ states_from bs partners (n + 1) rs
+-- the baseline state of each of these current results in a version; the first has number n
+abbrev pub states_from : MatchingVersion → List Record → List (Option ℕ) → ℕ → List Record
+    → List State
+states_from version bs partners n [] = []
+states_from version bs partners n (r ∷ rs) =
+    state_in version r (partner_in bs (slice_index_or partners n None))
+    ∷ states_from version bs partners (n + 1) rs
 
 -- the baseline state of each current result, by its match in the baseline
-abbrev pub states_of : List Record → List Record → List State
-states_of cs bs = states_from bs (partners_of cs bs) 0 cs
+abbrev pub states_of : MatchingVersion → List Record → List Record → List State
+states_of version cs bs = states_from version bs (partners_in version cs bs) 0 cs
 
 -- whether each baseline result is the match of a current result
-abbrev pub taken_of : List Record → List Record → List Bool
-taken_of cs bs = map (is_taken (partners_of cs bs)) (range_with_len 0 (length bs))
+abbrev pub taken_of : MatchingVersion → List Record → List Record → List Bool
+taken_of version cs bs =
+    map (is_taken (partners_in version cs bs)) (range_with_len 0 (length bs))
 
 -- ---- the log
 
@@ -46,21 +49,21 @@ taken_of cs bs = map (is_taken (partners_of cs bs)) (range_with_len 0 (length bs
 abbrev pub listing_of : File → Listing
 listing_of file r own = suppressions_of own file r
 
--- the input runs, each result with its level, its state and its suppressions
-abbrev pub current_runs : File → List Placed → List Placed → List Data
-current_runs file current baseline =
+-- the input runs, each result with its level, its state in a version and its suppressions
+abbrev pub current_runs : MatchingVersion → File → List Placed → List Placed → List Data
+current_runs version file current baseline =
     merged_runs (listing_of file) (records_of current)
-    (states_of (records_of current) (records_of baseline)) (run_values current)
+    (states_of version (records_of current) (records_of baseline)) (run_values current)
 
--- the baseline runs with an unmatched result, with exactly these results
-abbrev pub leftover_runs : List Placed → List Placed → List Data
-leftover_runs current baseline =
+-- the baseline runs with a result that is unmatched in a version, with exactly these results
+abbrev pub leftover_runs : MatchingVersion → List Placed → List Placed → List Data
+leftover_runs version current baseline =
     absent_runs (records_of baseline)
-    (taken_of (records_of current) (records_of baseline)) (run_values baseline)
+    (taken_of version (records_of current) (records_of baseline)) (run_values baseline)
 
-abbrev pub runs_by : File → List Placed → List Placed → List Data
-runs_by file current baseline =
-    current_runs file current baseline ++ leftover_runs current baseline
+abbrev pub runs_by : MatchingVersion → File → List Placed → List Placed → List Data
+runs_by version file current baseline =
+    current_runs version file current baseline ++ leftover_runs version current baseline
 
 -- how many of the runs have no results
 abbrev pub runs_without_results : List Data → ℕ
@@ -70,8 +73,8 @@ runs_without_results runs = count_by (λ run. not (is_some (results_array run)))
 abbrev pub log_by : List Data → Policy → ℕ → ℕ → Data
 log_by runs policy without unused = log_with (gate_of (count_of runs) policy without unused) runs
 
--- the log of these input runs, baseline runs and suppression file
-abbrev pub merged_by : File → List Placed → List Placed → Policy → Data
-merged_by file current baseline policy =
-    log_by (runs_by file current baseline) policy
+-- the log of these input runs, baseline runs and suppression file, matched by a version
+abbrev pub merged_by : MatchingVersion → File → List Placed → List Placed → Policy → Data
+merged_by version file current baseline policy =
+    log_by (runs_by version file current baseline) policy
     (runs_without_results (run_values current)) (unused_of file (records_of current))

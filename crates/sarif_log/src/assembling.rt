@@ -1,5 +1,6 @@
 //! Assembling the merged log, while what is no longer needed is released.
 ghost use Rattle.std.specs.Prelude.{◌≡◌, List, Ok, Option, IfOk};
+ghost use Rattle.sarif_match.specs.declared.version.MatchingVersion.{MatchingVersion};
 ghost use Rattle.sarif_entries.specs.File.{File};
 ghost use Rattle.sarif_runs.specs.Placed.{Placed};
 ghost use Rattle.sarif_findings.specs.declared.reporting.Reporting.{Reporting};
@@ -35,18 +36,20 @@ pub fn assemble<
     tell: Tell,
 ) -> Result<(Merged, B), AllocError>
     requires tells { Tell.IsAlwaysCallable tell }
-    ensures merged { IfOk result (λ made. (file : File) (current_runs baseline_runs : List Placed)
-        (asked : Option Reporting) → IsPrepared file current_runs baseline_runs asked prepared
-        → IsMergedBy file current_runs baseline_runs options.now.policy asked made.0) }
+    ensures merged { IfOk result (λ made. (version : MatchingVersion) (file : File)
+        (current_runs baseline_runs : List Placed) (asked : Option Reporting)
+        → IsPrepared version file current_runs baseline_runs asked prepared
+        → IsMergedBy version file current_runs baseline_runs options.now.policy asked made.0) }
     ensures life { IfOk result (λ made. made.0.life ≡ prepared.life) }
     ensures told { IfOk result (λ made. IsMadeBy Tell.FnOnce tell made.0 (Ok made.1)) }
 {
     let write = move || -> Result<(Merged, B), AllocError>
         requires { Tell.IsAlwaysCallable tell }
-        ensures merged { IfOk result (λ made. (file : File)
+        ensures merged { IfOk result (λ made. (version : MatchingVersion) (file : File)
             (current_runs baseline_runs : List Placed) (asked : Option Reporting)
-            → IsPrepared file current_runs baseline_runs asked prepared
-            → IsMergedBy file current_runs baseline_runs options.entry.now.policy asked made.0) }
+            → IsPrepared version file current_runs baseline_runs asked prepared
+            → IsMergedBy version file current_runs baseline_runs
+            options.entry.now.policy asked made.0) }
         ensures life { IfOk result (λ made. made.0.life ≡ prepared.life) }
         ensures told { IfOk result (λ made. IsMadeBy Tell.FnOnce tell made.0 (Ok made.1)) }
     { write_log(rt, alloc, prepared, options, tell) };

@@ -1,4 +1,4 @@
-//! The texts of results, each with its baseline state.
+//! The JSON of results, each with its baseline state.
 ghost use Rattle.std.specs.Prelude.{◌≡◌, ◌++◌, OnOk, false, length, string_bytes};
 ghost use Rattle.serde_json.specs.Data.{string};
 ghost use Rattle.serde_json.specs.Written.{comma_if, compact_text};
@@ -31,7 +31,7 @@ pub(crate) fn push_comma(text: &mut String, later: bool) -> Result<(), AllocErro
     Ok(())
 }
 
-/// Adds the texts of the results that have a state, with commas between them. There is a state, or none, for each
+/// Adds the JSON of the results that have a state, with commas between them. There is a state, or none, for each
 /// result. If memory runs out, some of the text may have been added.
 pub(crate) fn push_results(
     text: &mut String,

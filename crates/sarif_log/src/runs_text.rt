@@ -1,4 +1,4 @@
-//! The texts of the runs of the merged log.
+//! The JSON of the runs of the merged log.
 ghost use Rattle.std.specs.Prelude.{◌≡◌, ◌++◌, ◌==◌, Bool, not, OnOk, IfOk, false, is_some, length, string_bytes};
 ghost use Rattle.std.specs.List.{AllByRecursion, list_any};
 ghost use Rattle.sarif_log.specs.Internal.Texts.{count_in_parts, counts_in_parts, joined, left_texts, runs_texts, IsWholeRun};
@@ -27,7 +27,7 @@ fn has_any(states: &[Option<State>]) -> bool
     states.iter().any(|state| state.is_some())
 }
 
-/// Adds the texts of runs, with commas between them. The drafts are those of all their results in order, with a
+/// Adds the JSON of runs, with commas between them. The drafts are those of all their results in order, with a
 /// state, or none, for each; a result without a state is left out. If memory runs out, some of the text may have
 /// been added.
 pub(crate) fn push_runs(
@@ -57,7 +57,7 @@ pub(crate) fn push_runs(
     Ok(())
 }
 
-/// Adds the texts of only those runs that have a result with a state, as [`push_runs`] does, after others if there
+/// Adds the JSON of only the runs that have a result with a state, as [`push_runs`] does, after other runs if there
 /// are any.
 pub(crate) fn push_left_runs(
     alloc: Global,

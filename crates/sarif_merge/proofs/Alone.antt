@@ -29,7 +29,7 @@ pub kept_alone : {R : Type 0} → (remaining : R → Option (List ℕ)) → (old
     → IsMergedWith remaining old new options asked None merged → merged.life ≡ no_life
 kept_alone remaining old new options asked merged with_life = with_life.3.is
 
--- and it is rejected for no other reason
+-- a merge with nothing for later merges is rejected for no other reason
 pub refused_alone : {R : Type 0} → (remaining : R → Option (List ℕ)) → (old new : Readers R) → (options : Options) → (fault : MergeFault)
     → IsRefusedWith remaining old new options None fault → IsRefused remaining old new options fault
 refused_alone remaining old new options fault refused = elim refused [ inl same ↦ same | inr large ↦ let never : ⊥ = cc large.1.3 in absurd never ]

@@ -10,6 +10,7 @@ use Rattle.json.specs.Token.{Token}
 use Rattle.json_parts.specs.declared.indexing.IndexFault.{IndexFault}
 use Rattle.sarif_inputs.specs.Internal.Together.{AreIndexed}
 use Rattle.json_parts.specs.Mark.{without_mark}
+use Rattle.sarif_match.specs.declared.version.MatchingVersion.{MatchingVersion}
 use Rattle.sarif_entries.specs.File.{File}
 use Rattle.sarif_suppress.specs.Suppressing.{unused_of}
 use Rattle.sarif_model.specs.declared.merge_fault.MergeFault.{MergeFault}
@@ -41,40 +42,40 @@ use Rattle.sarif_model.specs.Limits.{most_sources}
 
 -- ---- what is assembled
 
-pub same_runs : (file : File) (now before xs ys : List Placed) (asked : Option Reporting) (prepared : Prepared)
-    → IsPrepared file now before asked prepared → now ≡ xs → before ≡ ys → IsPrepared file xs ys asked prepared
-same_runs file now before xs ys asked prepared h e f =
-    subst (λ k. IsPrepared file xs k asked prepared) f (subst (λ k. IsPrepared file k before asked prepared) e h)
+pub same_runs : (v : MatchingVersion) (file : File) (now before xs ys : List Placed) (asked : Option Reporting) (prepared : Prepared)
+    → IsPrepared v file now before asked prepared → now ≡ xs → before ≡ ys → IsPrepared v file xs ys asked prepared
+same_runs v file now before xs ys asked prepared h e f =
+    subst (λ k. IsPrepared v file xs k asked prepared) f (subst (λ k. IsPrepared v file k before asked prepared) e h)
 
 -- what is for later merges, of the same runs
-pub same_kept : (file : File) (bytes : Option (List ℕ)) (policy : Policy) (now before xs ys : List Placed) (upkeep : Option Upkeep) (life : Life)
-    → IsKept (merge_of file bytes policy now before) upkeep life → now ≡ xs → before ≡ ys → IsKept (merge_of file bytes policy xs ys) upkeep life
-same_kept file bytes policy now before xs ys upkeep life h e f =
-    subst (λ k. IsKept (merge_of file bytes policy xs k) upkeep life) f (subst (λ k. IsKept (merge_of file bytes policy k before) upkeep life) e h)
+pub same_kept : (v : MatchingVersion) (file : File) (bytes : Option (List ℕ)) (policy : Policy) (now before xs ys : List Placed) (upkeep : Option Upkeep) (life : Life)
+    → IsKept (merge_of v file bytes policy now before) upkeep life → now ≡ xs → before ≡ ys → IsKept (merge_of v file bytes policy xs ys) upkeep life
+same_kept v file bytes policy now before xs ys upkeep life h e f =
+    subst (λ k. IsKept (merge_of v file bytes policy xs k) upkeep life) f (subst (λ k. IsKept (merge_of v file bytes policy k before) upkeep life) e h)
 
-pub same_large : (file : File) (bytes : Option (List ℕ)) (policy : Policy) (now before xs ys : List Placed) (upkeep : Option Upkeep) (fault : MergeFault)
-    → first (life_faults (merge_of file bytes policy now before) upkeep) ≡ Some fault → now ≡ xs → before ≡ ys
-    → first (life_faults (merge_of file bytes policy xs ys) upkeep) ≡ Some fault
-same_large file bytes policy now before xs ys upkeep fault h e f =
-    subst (λ k. first (life_faults (merge_of file bytes policy xs k) upkeep) ≡ Some fault) f
-    (subst (λ k. first (life_faults (merge_of file bytes policy k before) upkeep) ≡ Some fault) e h)
+pub same_large : (v : MatchingVersion) (file : File) (bytes : Option (List ℕ)) (policy : Policy) (now before xs ys : List Placed) (upkeep : Option Upkeep) (fault : MergeFault)
+    → first (life_faults (merge_of v file bytes policy now before) upkeep) ≡ Some fault → now ≡ xs → before ≡ ys
+    → first (life_faults (merge_of v file bytes policy xs ys) upkeep) ≡ Some fault
+same_large v file bytes policy now before xs ys upkeep fault h e f =
+    subst (λ k. first (life_faults (merge_of v file bytes policy xs k) upkeep) ≡ Some fault) f
+    (subst (λ k. first (life_faults (merge_of v file bytes policy k before) upkeep) ≡ Some fault) e h)
 
 -- what is assembled of what was prepared for these inputs
 pub assembled_is : (inputs : Inputs) (policy : Policy) (asked : Option Reporting) (upkeep : Option Upkeep) (prepared : Prepared) (merged : Merged)
     → IsPreparedFor inputs policy asked upkeep prepared
-    → ((file : File) (now before : List Placed) (told : Option Reporting) → IsPrepared file now before told prepared
-    → IsMergedBy file now before policy told merged)
+    → ((v : MatchingVersion) (file : File) (now before : List Placed) (told : Option Reporting) → IsPrepared v file now before told prepared
+    → IsMergedBy v file now before policy told merged)
     → IsMerged inputs policy asked merged
 assembled_is inputs policy asked upkeep prepared merged ready assembled =
     let entries = file_in (file_or_none inputs.suppressions inputs.today) in
     let logs = placed (numbered inputs.checks Log 0 inputs.logs) in
     let baselines = placed (numbered inputs.checks Baseline 0 inputs.baselines) in
-    let made = assembled entries logs baselines asked ready.written in record {
+    let made = assembled inputs.checks.matching entries logs baselines asked ready.written in record {
       faultless = ready.faultless;
       begins = (
-        gate_of (count_of (runs_by entries logs baselines)) policy (runs_without_results (run_values logs))
+        gate_of (count_of (runs_by inputs.checks.matching entries logs baselines)) policy (runs_without_results (run_values logs))
             (unused_of entries (records_of logs)),
-        leftover_runs logs baselines,
+        leftover_runs inputs.checks.matching logs baselines,
         made.written.log,
       );
       log = made.written.log;

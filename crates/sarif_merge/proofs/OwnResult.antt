@@ -13,8 +13,9 @@ use Rattle.sarif_model.specs.declared.record.Record.{Record}
 use Rattle.sarif_model.specs.Members.{elements}
 use Rattle.sarif_model.specs.Run.{elements_or_none, is_absent_result, result_at, results_of, results_total}
 use Rattle.sarif_runs.specs.Record.{record_of}
-use Rattle.sarif_match.specs.Partners.{partners_of}
-use Rattle.sarif_match.specs.State.{state_of}
+use Rattle.sarif_match.specs.declared.version.MatchingVersion.{MatchingVersion}
+use Rattle.sarif_match.specs.Partners.{partners_in}
+use Rattle.sarif_match.specs.Evidence.{state_in}
 use Rattle.sarif_model.specs.declared.merge_fault.At.{At}
 use Rattle.sarif_model.specs.declared.merge_fault.At.TheVariants.{Single}
 use Rattle.sarif_model.specs.declared.merge_fault.Source.TheVariants.{Log, Baseline}
@@ -22,6 +23,7 @@ use Rattle.sarif_model.proofs.Elements.{items_back}
 use Rattle.sarif_runs.specs.declared.item.Item.{Item}
 use Rattle.sarif_runs.specs.declared.item.Item.TheVariants.{Skipped}
 use Rattle.sarif_runs.specs.Judging.{faults_of_runs, first_bad, item_by, item_of, items_of, opening_fault, records_in, records_of, run_faults, skips, with_record, run_values}
+use Rattle.sarif_runs.specs.declared.run_options.RecordOptions.{RecordOptions}
 use Rattle.sarif_runs.specs.Placed.{AreReadWith, Placed}
 use Rattle.sarif_results.specs.Drafts.{Listing}
 use Rattle.sarif_log.specs.MergedRuns.{annotated_items, bare, merged_run, merged_runs, own_results, with_results, written, written_all}
@@ -32,7 +34,7 @@ use Rattle.sarif_results.proofs.JudgedCounts.{no_fault, no_faults_here, no_fault
 use Rattle.sarif_log.proofs.Sides.{states_long}
 use Rattle.sarif_inputs.specs.Faults.{faults_of, file_faults, number_faults}
 use Rattle.sarif_entries.specs.Given.{file_or_none}
-use Rattle.sarif_inputs.specs.Inputs.{Inputs, all_runs, all_sources, baseline_runs, input_runs, reads_regions}
+use Rattle.sarif_inputs.specs.Inputs.{Inputs, all_runs, all_sources, baseline_runs, input_runs, record_options}
 use Rattle.sarif_inputs.specs.SourceFaults.{source_faults}
 use Rattle.sarif_inputs.proofs.ReadFacts.{log_sides, read_alike}
 use Rattle.sarif_merge.specs.MergedLog.{current_of, file_given, written_inputs}
@@ -41,7 +43,7 @@ use Rattle.sarif_merge.specs.OwnResult.{IsResult, baseline_of, partner_at, numbe
 -- ---- runs and results by their places
 
 module _ (listed : Listing) where
-  -- a written run uses the records and states of its own results
+  -- a written run uses exactly the records and states of the results in it
   merged_at : (rs : List Record) (ss : List State) (runs : List Data) (k : ℕ) → k < length runs
       → get_or (merged_runs listed rs ss runs) k null
       ≡ merged_run listed (take (length (results_of (get_or runs k null))) (drop (results_total (take k runs)) rs))
@@ -129,49 +131,49 @@ not_skipped p a log = ap (λ skip. skip && is_absent_result (result_at p.run a))
 -- among those from result a on
 record_from : (p : Placed) (at : ℕ → At) (n a m i j : ℕ) → skips p.source ≡ false → i < m → a + i ≡ j
     → first_bad at n (map (item_of p) (range_with_len a m)) ≡ []
-    → (r : Record) × (record_of p.options.read_regions p.run j ≡ Ok r) × ((d : Record) → get_or (records_in (map (item_of p) (range_with_len a m))) i d ≡ r)
+    → (r : Record) × (record_of p.options.records p.run j ≡ Ok r) × ((d : Record) → get_or (records_in (map (item_of p) (range_with_len a m))) i d ≡ r)
 record_from p at n a zero i j log within is sound = absurd (omega (arith, within))
 record_from p at n a (suc m) zero j log within is sound =
     let here : a ≡ j = omega (arith, is) in
-    subst (λ k. (r : Record) × (record_of p.options.read_regions p.run k ≡ Ok r)
+    subst (λ k. (r : Record) × (record_of p.options.records p.run k ≡ Ok r)
     × ((d : Record) → get_or (records_in (map (item_of p) (range_with_len a (suc m)))) 0 d ≡ r)) here
-    (first_one (skips p.source && is_absent_result (result_at p.run a)) (record_of p.options.read_regions p.run a) at n
+    (first_one (skips p.source && is_absent_result (result_at p.run a)) (record_of p.options.records p.run a) at n
     (map (item_of p) (range_with_len (a + 1) m)) (not_skipped p a log) sound)
 record_from p at n a (suc m) (suc i) j log within is sound =
     let rest =
-    after_one (skips p.source && is_absent_result (result_at p.run a)) (record_of p.options.read_regions p.run a) at n
+    after_one (skips p.source && is_absent_result (result_at p.run a)) (record_of p.options.records p.run a) at n
     (map (item_of p) (range_with_len (a + 1) m)) (not_skipped p a log) sound in
     let later = record_from p at (n + 1) (a + 1) m i j log (omega (arith, within)) (omega (arith, is)) rest.0 in
     (later.0, later.1, λ d. rest.1 i d ∙ later.2 d)
 
 -- in its run
 record_in_run : (p : Placed) (seq : ℕ) → skips p.source ≡ false → run_faults p ≡ [] → seq < length (results_of p.run)
-    → (r : Record) × (record_of p.options.read_regions p.run seq ≡ Ok r) × ((d : Record) → get_or (records_in (items_of p)) seq d ≡ r)
+    → (r : Record) × (record_of p.options.records p.run seq ≡ Ok r) × ((d : Record) → get_or (records_in (items_of p)) seq d ≡ r)
 record_in_run p seq log sound within =
     record_from p (Single p.source p.number) 0 0 (length (results_of p.run)) seq seq log within (omega arith)
     (no_fault p.source p.number (opening_fault p) (items_of p) sound)
 
 -- among the records of all runs
-pub record_at : (regions : Bool) (ps : List Placed) (k seq : ℕ) → faults_of_runs ps ≡ [] → AllByRecursion (λ p. skips p.source ≡ false) ps
-    → AreReadWith regions ps
+pub record_at : (options : RecordOptions) (ps : List Placed) (k seq : ℕ) → faults_of_runs ps ≡ [] → AllByRecursion (λ p. skips p.source ≡ false) ps
+    → AreReadWith options ps
     → k < length ps → seq < length (results_of (get_or (run_values ps) k null))
-    → (r : Record) × (record_of regions (get_or (run_values ps) k null) seq ≡ Ok r)
+    → (r : Record) × (record_of options (get_or (run_values ps) k null) seq ≡ Ok r)
     × ((d : Record) → get_or (records_of ps) (results_total (take k (run_values ps)) + seq) d ≡ r)
-record_at regions [] k seq sound logs alike there within = absurd (omega (arith, there))
-record_at regions (p ∷ ps) zero seq sound logs alike there within =
+record_at options [] k seq sound logs alike there within = absurd (omega (arith, there))
+record_at options (p ∷ ps) zero seq sound logs alike there within =
     let none = no_faults_here (run_faults p) (faults_of_runs ps) sound in
     let own = record_in_run p seq logs.0 none within in
     let inside : seq < length (records_in (items_of p)) = omega (arith, within, records_of_log p logs.0 none) in
     let place : 0 + seq ≡ seq = omega arith in (
       own.0,
-      subst (λ b. record_of b p.run seq ≡ Ok own.0) alike.0 own.1,
+      subst (λ o. record_of o p.run seq ≡ Ok own.0) alike.0 own.1,
       λ d. ap (λ i. get_or (records_in (items_of p) ++ records_of ps) i d) place
           ∙ get_or_append_left (records_in (items_of p)) (records_of ps) d seq inside ∙ own.2 d,
     )
-record_at regions (p ∷ ps) (suc k) seq sound logs alike there within =
+record_at options (p ∷ ps) (suc k) seq sound logs alike there within =
     let none = no_faults_here (run_faults p) (faults_of_runs ps) sound in
     let before = results_total (take k (run_values ps)) in
-    let own = record_at regions ps k seq (no_faults_left (run_faults p) (faults_of_runs ps) sound) logs.1 alike.1 (omega (arith, there)) within in
+    let own = record_at options ps k seq (no_faults_left (run_faults p) (faults_of_runs ps) sound) logs.1 alike.1 (omega (arith, there)) within in
     let many = records_of_log p logs.0 none in
     let place : (length (results_of p.run) + before) + seq ≡ length (records_in (items_of p)) + (before + seq) = omega (arith, many) in (
       own.0,
@@ -182,14 +184,14 @@ record_at regions (p ∷ ps) (suc k) seq sound logs alike there within =
 
 -- ---- the state of a result
 
-pub state_at : (bs : List Record) (partners : List (Option ℕ)) (n i j : ℕ) (cs : List Record) (r : Record) (s : State) → i < length cs → n + i ≡ j
-    → get_or (states_from bs partners n cs) i s ≡ state_of (get_or cs i r) (partner_in bs (get_or partners j None))
-state_at bs partners n i j [] r s within is = absurd (omega (arith, within))
-state_at bs partners n zero j (c ∷ cs) r s within is =
+pub state_at : (v : MatchingVersion) (bs : List Record) (partners : List (Option ℕ)) (n i j : ℕ) (cs : List Record) (r : Record) (s : State) → i < length cs → n + i ≡ j
+    → get_or (states_from v bs partners n cs) i s ≡ state_in v (get_or cs i r) (partner_in bs (get_or partners j None))
+state_at v bs partners n i j [] r s within is = absurd (omega (arith, within))
+state_at v bs partners n zero j (c ∷ cs) r s within is =
     let here : n ≡ j = omega (arith, is) in
-    ap (λ k. state_of c (partner_in bs (get_or partners k None))) here
-state_at bs partners n (suc i) j (c ∷ cs) r s within is =
-    state_at bs partners (n + 1) i j cs r s (omega (arith, within)) (omega (arith, is))
+    ap (λ k. state_in v c (partner_in bs (get_or partners k None))) here
+state_at v bs partners n (suc i) j (c ∷ cs) r s within is =
+    state_at v bs partners (n + 1) i j cs r s (omega (arith, within)) (omega (arith, is))
 
 -- ---- a part of a list
 
@@ -225,7 +227,7 @@ faultless_runs inputs none =
 pub runs_same : (inputs : Inputs) → length (written_inputs inputs) ≡ length (input_runs inputs)
 runs_same inputs =
     let now = input_runs inputs in
-    runs_written (listing_of (file_given inputs)) (current_of inputs) (states_of (current_of inputs) (baseline_of inputs)) (run_values now)
+    runs_written (listing_of (file_given inputs)) (current_of inputs) (states_of inputs.checks.matching (current_of inputs) (baseline_of inputs)) (run_values now)
     ∙ length-map now (λ p. p.run)
 
 pub results_same : (inputs : Inputs) (k : ℕ) → k < length (input_runs inputs)
@@ -234,7 +236,7 @@ results_same inputs k there =
     let now = input_runs inputs in
     let runs = run_values now in
     let rs = current_of inputs in
-    let ss = states_of rs (baseline_of inputs) in
+    let ss = states_of inputs.checks.matching rs (baseline_of inputs) in
     let listed = listing_of (file_given inputs) in
     let run = run_at inputs k in
     let own_records = take (length (results_of run)) (drop (results_total (take k runs)) rs) in
@@ -244,14 +246,14 @@ results_same inputs k there =
     ∙ results_written listed own_records own_states (results_of run)
 
 pub own_result : (inputs : Inputs) (k seq : ℕ) → faults_of inputs ≡ [] → IsResult inputs k seq
-    → (r : Record) × (record_of (reads_regions inputs.checks) (run_at inputs k) seq ≡ Ok r)
+    → (r : Record) × (record_of (record_options inputs.checks) (run_at inputs k) seq ≡ Ok r)
     × (result_at (written_run inputs k) seq ≡ written_by inputs r (number_among_all inputs k seq) (result_at (run_at inputs k) seq))
 own_result inputs k seq none there =
     let now = input_runs inputs in
     let runs = run_values now in
     let rs = current_of inputs in
     let bs = baseline_of inputs in
-    let ss = states_of rs bs in
+    let ss = states_of inputs.checks.matching rs bs in
     let listed = listing_of (file_given inputs) in
     let run = run_at inputs k in
     let b = results_total (take k runs) in
@@ -259,17 +261,17 @@ own_result inputs k seq none there =
     let sound = faultless_runs inputs none in
     let logs = log_sides inputs.checks 0 inputs.logs in
     let alike = read_alike inputs.checks Log 0 inputs.logs in
-    let own = record_at (reads_regions inputs.checks) now k seq sound logs alike there.0 there.1 in
+    let own = record_at (record_options inputs.checks) now k seq sound logs alike there.0 there.1 in
     let r = own.0 in
-    let s = state_of r (partner_at inputs (b + seq)) in
+    let s = state_in inputs.checks.matching r (partner_at inputs (b + seq)) in
     let in_runs : k < length runs = omega (arith, there.0, length-map now (λ p. p.run)) in
     let fits : b + c ≤ length rs = omega (arith, within_total runs k in_runs, records_of_logs now sound logs) in
-    let fits_states : b + c ≤ length ss = omega (arith, fits, states_long bs (partners_of rs bs) 0 rs) in
+    let fits_states : b + c ≤ length ss = omega (arith, fits, states_long inputs.checks.matching bs (partners_in inputs.checks.matching rs bs) 0 rs) in
     let in_all : b + seq < length rs = omega (arith, fits, there.1) in
     let record_is : get_or (take c (drop b rs)) seq r ≡ r = part_at rs b c seq r there.1 ∙ own.2 r in
     let state_is : get_or (take c (drop b ss)) seq s ≡ s =
-    part_at ss b c seq s there.1 ∙ state_at bs (partners_of rs bs) 0 (b + seq) (b + seq) rs r s in_all (omega arith)
-    ∙ ap (λ q. state_of q (partner_at inputs (b + seq))) (own.2 r) in
+    part_at ss b c seq s there.1 ∙ state_at inputs.checks.matching bs (partners_in inputs.checks.matching rs bs) 0 (b + seq) (b + seq) rs r s in_all (omega arith)
+    ∙ ap (λ q. state_in inputs.checks.matching q (partner_at inputs (b + seq))) (own.2 r) in
     let in_records : seq < length (take c (drop b rs)) = omega (arith, there.1, part_long rs b c fits) in
     let in_states : seq < length (take c (drop b ss)) = omega (arith, there.1, part_long ss b c fits_states) in (
       r,

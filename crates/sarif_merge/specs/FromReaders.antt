@@ -54,7 +54,7 @@ IsMergedFrom remaining old new options asked merged =
     (contents : SourceContents) × WereRead remaining old new contents
     × IsMerged (given_by contents options) options.policy asked merged
 
--- the same, with what is for later merges
+-- all sources were read, and this is the merge of what was read, with what is for later merges
 abbrev pub IsMergedWith : {R : Type 0} → (R → Option (List ℕ)) → Readers R → Readers R
     → Options → Option Reporting → Option Upkeep → Merged → Type 0
 IsMergedWith remaining old new options asked upkeep merged =

@@ -15,7 +15,7 @@ use Rattle.sarif_merge.specs.MergedLog.{file_given}
 -- the merge of these inputs under this policy
 abbrev pub merge_in : Inputs → Policy → Merge
 merge_in inputs policy =
-    merge_of (file_given inputs) inputs.suppressions policy
+    merge_of inputs.checks.matching (file_given inputs) inputs.suppressions policy
     (input_runs inputs) (baseline_runs inputs)
 
 -- nothing for later merges

@@ -26,11 +26,14 @@ current_of inputs = records_of (input_runs inputs)
 
 -- the input runs as they are written: each result once, in order, with its level, its state and its suppressions
 abbrev pub written_inputs : Inputs → List Data
-written_inputs inputs = current_runs (file_given inputs) (input_runs inputs) (baseline_runs inputs)
+written_inputs inputs =
+    current_runs inputs.checks.matching (file_given inputs)
+    (input_runs inputs) (baseline_runs inputs)
 
 -- the runs of the merged log
 abbrev pub runs_written : Inputs → List Data
-runs_written inputs = runs_by (file_given inputs) (input_runs inputs) (baseline_runs inputs)
+runs_written inputs =
+    runs_by inputs.checks.matching (file_given inputs) (input_runs inputs) (baseline_runs inputs)
 
 abbrev pub without_of : Inputs → ℕ
 without_of inputs = runs_without_results (run_values (input_runs inputs))
@@ -41,7 +44,8 @@ unused_in inputs = unused_of (file_given inputs) (current_of inputs)
 
 abbrev pub merged_log : Inputs → Policy → Data
 merged_log inputs policy =
-    merged_by (file_given inputs) (input_runs inputs) (baseline_runs inputs) policy
+    merged_by inputs.checks.matching (file_given inputs)
+    (input_runs inputs) (baseline_runs inputs) policy
 
 -- the text that is written: compact, members in the byte order of their names, nothing after it
 abbrev pub output_text : Inputs → Policy → List ℕ

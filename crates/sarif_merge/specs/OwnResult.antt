@@ -3,8 +3,8 @@ use Rattle.std.specs.Prelude.{ℕ, ◌+◌, ◌<◌, List, Option, None, length,
 use Rattle.serde_json.specs.Data.{Data, null}
 use Rattle.sarif_model.specs.declared.record.Record.{Record}
 use Rattle.sarif_model.specs.Run.{results_of, results_total}
-use Rattle.sarif_match.specs.Partners.{partners_of}
-use Rattle.sarif_match.specs.State.{state_of}
+use Rattle.sarif_match.specs.Evidence.{state_in}
+use Rattle.sarif_match.specs.Partners.{partners_in}
 use Rattle.sarif_runs.specs.Judging.{records_of, run_values}
 use Rattle.sarif_log.specs.MergedRuns.{written}
 use Rattle.sarif_log.specs.LogBy.{listing_of, partner_in}
@@ -34,11 +34,12 @@ baseline_of inputs = records_of (baseline_runs inputs)
 -- the match in the baseline of the current result with that number, if it has one
 abbrev pub partner_at : Inputs → ℕ → Option Record
 partner_at inputs place =
-    let partners = partners_of (current_of inputs) (baseline_of inputs) in
+    let partners = partners_in inputs.checks.matching (current_of inputs) (baseline_of inputs) in
     partner_in (baseline_of inputs) (slice_index_or partners place None)
 
 -- the current result with that number, as it is written: with the level of this record, the baseline state that
 -- follows from its match, and its own suppressions with those that the suppression file adds
 abbrev pub written_by : Inputs → Record → ℕ → Data → Data
 written_by inputs r place result =
-    written (listing_of (file_given inputs)) r (state_of r (partner_at inputs place)) result
+    written (listing_of (file_given inputs)) r
+    (state_in inputs.checks.matching r (partner_at inputs place)) result

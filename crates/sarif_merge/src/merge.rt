@@ -139,7 +139,7 @@ pub fn merge_bytes<G: Gate + Sync, R: Threads + Wait + Sync>(
     ensures gate { let inputs = inputs_of sources.now options.now in
         IfOk result (HasGate (runs_written inputs) options.now.policy (without_of inputs)
         (unused_in inputs)) }
-    // It has no findings.
+    // The merge has no findings.
     ensures untold { IfOk result (λ merged. merged.findings.items ≡ []) }
     // Nothing is for later merges.
     ensures life { IfOk result (λ merged. merged.life ≡ no_life) }

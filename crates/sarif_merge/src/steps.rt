@@ -89,7 +89,7 @@ impl<'m, 'o: 'm> Merging<'m, 'o> {
 
     /// Opens the runs of the sources.
     pub(crate) fn open<'t, 'a, R: Threads + Sync>(
-        &self,
+        &'t self,
         rt: &R,
         alloc: Global,
         indexes: &'t [Result<Index<'a>, IndexFault>],
@@ -102,7 +102,7 @@ impl<'m, 'o: 'm> Merging<'m, 'o> {
     {
         let options = self.asked.options;
         let opening = Opening {
-            checks: options.checks,
+            checks: &options.checks,
             seed: options.seed,
         };
         let logs = self.sources.logs.len();

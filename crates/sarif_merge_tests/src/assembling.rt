@@ -64,7 +64,7 @@ fn merge_without_file<R: Threads + Sync>(
 fn without_runs_the_log_holds_its_gate(rt: HostRuntime) -> Result<(), Fail> {
     let options = Options {
         policy: Policy::default(),
-        checks: Checks::default(),
+        checks: Checks::new(rt.alloc()),
         today: None,
         workers: 1,
         seed: RandomState::new(&rt)?,

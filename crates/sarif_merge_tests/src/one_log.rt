@@ -42,7 +42,7 @@ fn a_result_without_a_level_is_a_new_warning(rt: HostRuntime) -> Result<(), Fail
 #[test]
 fn a_log_that_a_reader_gives(rt: HostRuntime) -> Result<(), Fail> {
     let log = log_of(rt.alloc(), "lint: M")?;
-    let options = options_by(Policy::default(), None, 1)?;
+    let options = options_by(rt.alloc(), Policy::default(), None, 1)?;
     let asked = Asked {
         options: &options,
         reporting: None,

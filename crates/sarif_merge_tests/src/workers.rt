@@ -29,7 +29,7 @@ fn the_log_is_the_same_for_all_workers(rt: HostRuntime) -> Result<(), Fail> {
     Ok(())
 }
 
-// How often a test looks at a flag before it notes a miss.
+// How often a test reads a flag before it notes a miss.
 const TURNS: u32 = 50_000_000;
 
 // True once the flag is set.
@@ -92,7 +92,7 @@ fn write_watched<G: Gate + Sync, R: Abort + AllocGlobal + Threads + Wait + Sync>
     assert!(rt; 1 <= workers && workers <= 64);
     let mut taken = Vec::new(rt.alloc());
     let mut readers = readers_of(rt.alloc(), Texts::of(log))?;
-    let options = options_by(Policy::default(), None, workers)?;
+    let options = options_by(rt.alloc(), Policy::default(), None, workers)?;
     merge_to(
         rt,
         rt.alloc(),

@@ -72,7 +72,7 @@ many all p run at n a zero is skip whole sound =
     sym (ap (λ ds. with_run p.run (present ds)) (drop_all a (results_of p.run) (omega (arith, whole))))
 many all p run at n a (suc m) is skip whole sound =
     let rest = drop (a + 1) (results_of p.run) in
-    one (pair_at all) (λ d. (p.run, d)) (skips p.source) (is_absent_result (result_at p.run a)) (record_of p.options.read_regions p.run a) at n
+    one (pair_at all) (λ d. (p.run, d)) (skips p.source) (is_absent_result (result_at p.run a)) (record_of p.options.records p.run a) at n
     (map (item_of p) (range_with_len (a + 1) m))
     (record { run = run; seq = a })
     (spots_with_record (map (item_of p) (range_with_len (a + 1) m)) (map (λ seq. record { run = run; seq = seq }) (range_with_len (a + 1) m)))

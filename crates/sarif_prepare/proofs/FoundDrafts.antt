@@ -58,7 +58,7 @@ many file p at n a zero all sound = none (skips p.source) where
   none false = refl
 many file p at n a (suc m) all sound =
     let rest = drop (a + 1) (results_of p.run) in
-    one file (skips p.source) (is_absent_result (result_at p.run a)) (record_of p.options.read_regions p.run a) at n
+    one file (skips p.source) (is_absent_result (result_at p.run a)) (record_of p.options.records p.run a) at n
     (map (item_of p) (range_with_len (a + 1) m))
     (drafts_in (map (outcome_of file p) (range_with_len (a + 1) m))) (result_at p.run a) (kept (skips p.source) rest) sound
     (many file p at (n + 1) (a + 1) m (omega arith))

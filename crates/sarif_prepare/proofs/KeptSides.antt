@@ -1,9 +1,10 @@
 -- The matched merge, as what is made for later merges sees it.
-use Rattle.std.proofs.Common.{◌≡◌, ◌+◌, ℕ, List, [], ◌∷◌, Option, Some, map, length, length-append, refl, sym, ap, ◌∙◌, arith}
+use Rattle.std.proofs.Common.{◌≡◌, ◌+◌, ℕ, suc, List, [], ◌∷◌, Option, Some, map, length, length-append, refl, sym, ap, ◌∙◌, arith}
 use Rattle.serde_json.specs.Data.{Data}
 use Rattle.sarif_model.specs.declared.record.Record.{Record}
 use Rattle.sarif_model.specs.Run.{present, results_of}
-use Rattle.sarif_match.specs.Partners.{partners_of}
+use Rattle.sarif_match.specs.declared.version.MatchingVersion.{MatchingVersion}
+use Rattle.sarif_match.specs.Partners.{partners_in}
 use Rattle.std.specs.Prelude.{flat_map, option_map, unwrap_or}
 use Rattle.sarif_model.specs.declared.kinds.State.{State}
 use Rattle.sarif_model.specs.declared.kinds.State.TheVariants.{New}
@@ -21,11 +22,16 @@ use Rattle.sarif_prepare.specs.declared.baselines.Baselines.{Baselines}
 use Rattle.sarif_prepare.specs.declared.halves.Half.{Half}
 use Rattle.sarif_prepare.specs.declared.preparing.Paired.{Paired}
 use Rattle.sarif_prepare.specs.Internal.LeftParts.{present_counts as placed_counts}
-use Rattle.sarif_prepare.specs.Kept.{merge_of}
+use Rattle.sarif_prepare.specs.Kept.{merge_of, standings_from, standings_of}
 use Rattle.sarif_log.specs.LogBy.{listing_of, states_of, taken_of}
 use Rattle.sarif_log.specs.Internal.Texts.{present_results}
 use Rattle.sarif_prepare.specs.Internal.Together.{AreTogether, IsPaired}
 use Rattle.sarif_log.proofs.Sides.{results_long, states_long, taken_long}
+
+standings_long : (v : MatchingVersion) (bs : List Record) (ps : List (Option ℕ)) (n : ℕ) (cs : List Record)
+    → length (standings_from v bs ps n cs) ≡ length cs
+standings_long v bs ps n [] = refl
+standings_long v bs ps n (c ∷ cs) = ap suc (standings_long v bs ps (n + 1) cs)
 
 -- the drafts of results know what the file makes of each
 pub applied_are : (listed : Listing) (file : File) (rs : List Record) (ds : List Data) → length rs ≡ length ds
@@ -42,17 +48,19 @@ pub counts_are : (runs : List Placed) → placed_counts runs ≡ present_counts 
 counts_are [] = refl
 counts_are (p ∷ ps) = ap (λ l. length (present (results_of p.run)) ∷ l) (counts_are ps)
 
--- what is handed on is the merge
-pub matched_is : (file : File) (bytes : Option (List ℕ)) (policy : Policy) (now before : List Placed) (c : Half) (b : Baselines) (p : Paired)
-    (matched : Matched)
-    → AreTogether file now before c b → IsPaired c b p → IsFileOf bytes file
+-- the value that is passed on is that of the merge
+pub matched_is : (version : MatchingVersion) (file : File) (bytes : Option (List ℕ)) (policy : Policy) (now before : List Placed)
+    (c : Half) (b : Baselines) (p : Paired) (matched : Matched)
+    → AreTogether file now before c b → IsPaired version c b p → IsFileOf bytes file
     → matched.file.now ≡ file → option_map (λ x. x.now) matched.bytes ≡ bytes → matched.policy ≡ policy
+    → matched.matching ≡ version
     → matched.current.runs.now ≡ c.runs.items → matched.current.records.now ≡ c.records.items → matched.current.drafts.now ≡ c.drafts.items
-    → matched.current.states.now ≡ states_of c.records.items b.records.items
+    → matched.current.states.now ≡ states_of version c.records.items b.records.items
+    → matched.current.standings.now ≡ p.standings.items
     → matched.before.runs.now ≡ b.runs.items → matched.before.counts.now ≡ b.counts.items → matched.before.records.now ≡ b.records.items
     → matched.before.taken.now ≡ p.taken.items
-    → IsMatched (merge_of file bytes policy now before) matched
-matched_is file bytes policy now before c b p matched h q read file_is bytes_are policy_is runs_are records_are drafts_are states_are old_runs_are
+    → IsMatched (merge_of version file bytes policy now before) matched
+matched_is version file bytes policy now before c b p matched h q read file_is bytes_are policy_is matching_is runs_are records_are drafts_are states_are standings_are old_runs_are
     counts_is known_are taken_is =
     let rs = records_of now in
     let bs = records_of before in
@@ -61,24 +69,28 @@ matched_is file bytes policy now before c b p matched h q read file_is bytes_are
       bytes = bytes_are;
       read = read;
       policy = policy_is;
+      matching = matching_is;
       current = record {
         runs = ap (λ all. run_values (map placed_of all)) runs_are ∙ ap run_values h.is_current.opened;
         records = records_are ∙ h.is_current.records;
         drafts =
             ap (map (λ (draft : Draft). draft.applied)) (drafts_are ∙ h.is_current.drafts)
             ∙ applied_are (listing_of file) file rs (flat_map results_of (run_values now)) long;
-        states = states_are ∙ ap (λ l. states_of l b.records.items) h.is_current.records ∙ ap (states_of rs) h.are_baselines.records;
+        states = states_are ∙ ap (λ l. states_of version l b.records.items) h.is_current.records ∙ ap (states_of version rs) h.are_baselines.records;
+        standings = standings_are ∙ q.standings ∙ ap (λ l. standings_of version l b.records.items) h.is_current.records
+            ∙ ap (standings_of version rs) h.are_baselines.records;
         records_long = h.current_records;
-        states_long = states_long bs (partners_of rs bs) 0 rs;
+        states_long = states_long version bs (partners_in version rs bs) 0 rs;
+        standings_long = standings_long version bs (partners_in version rs bs) 0 rs;
         few = h.few_current;
       };
       before = record {
         runs = ap (λ all. run_values (map placed_of all)) old_runs_are ∙ ap run_values h.are_baselines.opened;
         counts = counts_is ∙ h.are_baselines.counts ∙ counts_are before;
         records = known_are ∙ h.are_baselines.records;
-        taken = taken_is ∙ q.taken ∙ ap (λ l. taken_of l b.records.items) h.is_current.records ∙ ap (taken_of rs) h.are_baselines.records;
+        taken = taken_is ∙ q.taken ∙ ap (λ l. taken_of version l b.records.items) h.is_current.records ∙ ap (taken_of version rs) h.are_baselines.records;
         records_long = h.are_baselines.count ∙ present_sum (run_values before);
-        taken_long = taken_long rs bs;
+        taken_long = taken_long version rs bs;
         few = h.few_baseline;
       };
     }

@@ -1,4 +1,4 @@
--- The texts and the counts of the unmatched results, if only these have a draft.
+-- The JSON and the counts of the unmatched results, if only these have a draft.
 use Rattle.std.proofs.Common.{◌≡◌, ℕ, zero, suc, ◌+◌, Bool, true, false, List, [], ◌∷◌, ◌++◌, map, length, take, drop, Option, Some, is_some, option_map, unwrap_or, refl, sym, ap, ◌∙◌, arith}
 use Rattle.std.proofs.Math.Seq.{take-append_seam, drop-append_seam}
 use Rattle.std.proofs.lemmas.List.{map-append, length-map, length-append, length-drop, length-take-le, take-map, drop-map}
@@ -24,7 +24,7 @@ use Rattle.sarif_prepare.specs.Internal.LeftParts.{left_count, AreLeftParts}
 abbrev absent : Draft → Option State
 absent draft = Some Absent
 
--- ---- lists from which some elements are taken
+-- ---- lists without their marked elements
 
 pub seam : {X : Type 0} (n : ℕ) (taken : List Bool) (xs : List X) → length xs ≡ length taken
     → not_taken taken xs ≡ not_taken (take n taken) (take n xs) ++ not_taken (drop n taken) (drop n xs)
@@ -141,7 +141,7 @@ whole (p ∷ all) taken (run ∷ runs) ds parts same total =
     ∙ ap (λ zs. text_if (list_any is_some (take n ss)) (run_text (members_view p.members.entries) (Some (texts_of (take n ds) (take n ss))))
     (left_texts (full all runs) (drop n ds) zs)) (sym (drop-map unless_taken n taken))
 
--- the texts of the unmatched results are those of the runs of a merged log
+-- the JSON of the unmatched results is that of the runs of a merged log
 pub left_written : (rs : List Record) (taken : List Bool) (all : List RunParts) (runs : List Data) (ds : List Draft)
     → AllByRecursion IsRun runs → AreLeftParts all taken runs → length rs ≡ length (present_results runs) → length taken ≡ length rs
     → ds ≡ drafts_by (λ _ own. own) unapplied rs (present_results runs) → length ds ≡ length taken

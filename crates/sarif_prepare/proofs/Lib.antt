@@ -8,7 +8,7 @@ pub mod ResultsAlike
 pub mod RunPartsOf
 pub mod RunsAlike
 pub mod Shared
-pub mod StatesMore
+pub mod StandingsMore
 pub mod ToldResults
 pub mod ToldRuns
 pub mod ToldSides

@@ -110,7 +110,7 @@ front : {X : Type 0} (o : Option X) (xs ys zs : List X) → xs ≡ ys ++ zs → 
 front None xs ys zs same = same
 front (Some x) xs ys zs same = ap (λ ws. x ∷ ws) same
 
--- those before and those after
+-- the findings of the first n results, followed by those of the others
 split : (reporting : Reporting) (n : ℕ) (ps : List (Data × Data)) (ds : List Draft) (ss : List (Option State))
     → told_each reporting ps ds ss ≡ told_each reporting (take n ps) (take n ds) (take n ss) ++ told_each reporting (drop n ps) (drop n ds) (drop n ss)
 split reporting zero ps ds ss = refl
@@ -121,7 +121,7 @@ split reporting (suc n) (p ∷ ps) (d ∷ ds) (s ∷ ss) =
     front (told_as reporting p.0 p.1 d s) (told_each reporting ps ds ss) (told_each reporting (take n ps) (take n ds) (take n ss))
     (told_each reporting (drop n ps) (drop n ds) (drop n ss)) (split reporting n ps ds ss)
 
--- the same, if these are the first of them
+-- the findings of two lists of results, the first followed by the second
 seam : (reporting : Reporting) (ps qs : List (Data × Data)) (n : ℕ) (ds : List Draft) (ss : List (Option State)) → n ≡ length ps
     → told_each reporting (ps ++ qs) ds ss ≡ told_each reporting ps (take n ds) (take n ss) ++ told_each reporting qs (drop n ds) (drop n ss)
 seam reporting ps qs n ds ss same =

@@ -6,7 +6,8 @@ use Rattle.std.specs.Prelude.{flat_map}
 use Rattle.serde_json.specs.Data.{Data}
 use Rattle.sarif_model.specs.declared.kinds.State.TheVariants.{Absent}
 use Rattle.sarif_model.specs.Run.{results_of}
-use Rattle.sarif_match.specs.Partners.{partners_of}
+use Rattle.sarif_match.specs.declared.version.MatchingVersion.{MatchingVersion}
+use Rattle.sarif_match.specs.Partners.{partners_in}
 use Rattle.sarif_entries.specs.File.{File}
 use Rattle.sarif_runs.specs.Judging.{records_of, run_values}
 use Rattle.sarif_prepare.specs.Internal.Leftover.{not_taken}
@@ -37,32 +38,32 @@ pairs_count (run ∷ runs) =
     ∙ ap (λ n. length (present (results_of run)) + n) (pairs_count runs)
     ∙ sym (length-append (present (results_of run)) (present_results runs))
 
-current_told : (reporting : Reporting) (file : File) (now before : List Placed) (c : Half) (b : Baselines) (p : Paired)
-    → AreTogether file now before c b → IsPaired c b p
-    → told_each reporting (map (pair_at now) (spots_from 0 now)) c.drafts.items p.states.items ≡ flat_map (reported_in reporting) (current_runs file now before)
-current_told reporting file now before c b p h q =
+current_told : (v : MatchingVersion) (reporting : Reporting) (file : File) (now before : List Placed) (c : Half) (b : Baselines) (p : Paired)
+    → AreTogether file now before c b → IsPaired v c b p
+    → told_each reporting (map (pair_at now) (spots_from 0 now)) c.drafts.items p.states.items ≡ flat_map (reported_in reporting) (current_runs v file now before)
+current_told v reporting file now before c b p h q =
     let cs = records_of now in
     let bs = records_of before in
     let states =
-    q.states ∙ ap (λ rs. map Some (states_of rs b.records.items)) h.is_current.records ∙ ap (λ rs. map Some (states_of cs rs)) h.are_baselines.records in
+    q.states ∙ ap (λ rs. map Some (states_of v rs b.records.items)) h.is_current.records ∙ ap (λ rs. map Some (states_of v cs rs)) h.are_baselines.records in
     ap (λ ps. told_each reporting ps c.drafts.items p.states.items) (pairs_of_all now)
     ∙ ap (λ ds. told_each reporting (flat_map own_results (run_values now)) ds p.states.items) h.is_current.drafts
     ∙ ap (told_each reporting (flat_map own_results (run_values now))
     (drafts_by (listing_of file) (applied_of file) cs (flat_map results_of (run_values now)))) states
-    ∙ runs_told reporting (listing_of file) (applied_of file) cs (states_of cs bs) (run_values now) h.current_are_runs h.current_records
-    (states_long bs (partners_of cs bs) 0 cs)
+    ∙ runs_told reporting (listing_of file) (applied_of file) cs (states_of v cs bs) (run_values now) h.current_are_runs h.current_records
+    (states_long v bs (partners_in v cs bs) 0 cs)
 
-left_told : (reporting : Reporting) (file : File) (now before : List Placed) (c : Half) (b : Baselines) (p : Paired)
-    → AreTogether file now before c b → IsPaired c b p
+left_told : (v : MatchingVersion) (reporting : Reporting) (file : File) (now before : List Placed) (c : Half) (b : Baselines) (p : Paired)
+    → AreTogether file now before c b → IsPaired v c b p
     → told_each reporting (map (pair_at before) (not_taken p.taken.items b.spots.items)) p.left.items (map (λ _. Some Absent) p.left.items)
-    ≡ flat_map (reported_in reporting) (leftover_runs now before)
-left_told reporting file now before c b p h q =
-    let taken = taken_of (records_of now) (records_of before) in
+    ≡ flat_map (reported_in reporting) (leftover_runs v now before)
+left_told v reporting file now before c b p h q =
+    let taken = taken_of v (records_of now) (records_of before) in
     let is : p.taken.items ≡ taken =
-    q.taken ∙ ap (λ rs. taken_of rs b.records.items) h.is_current.records ∙ ap (taken_of (records_of now)) h.are_baselines.records in
+    q.taken ∙ ap (λ rs. taken_of v rs b.records.items) h.is_current.records ∙ ap (taken_of v (records_of now)) h.are_baselines.records in
     let pairs = flat_map present_in (run_values before) in
     let drafts = baseline_drafts before in
-    let long = taken_long (records_of now) (records_of before) in
+    let long = taken_long v (records_of now) (records_of before) in
     let pairs_long : length pairs ≡ length taken =
     pairs_count (run_values before) ∙ sym h.are_baselines.count ∙ sym long in
     ap (λ ps. told_each reporting ps p.left.items (map (λ _. Some Absent) p.left.items))
@@ -73,14 +74,14 @@ left_told reporting file now before c b p h q =
     (baseline_long before b h.are_baselines ∙ sym long)
 
 -- both, in order
-pub sides_told : (asked : Option Reporting) (file : File) (now before : List Placed) (c : Half) (b : Baselines) (p : Paired)
-    → AreTogether file now before c b → IsPaired c b p
+pub sides_told : (v : MatchingVersion) (asked : Option Reporting) (file : File) (now before : List Placed) (c : Half) (b : Baselines) (p : Paired)
+    → AreTogether file now before c b → IsPaired v c b p
     → if_asked asked (λ r. told_each r (map (pair_at now) (spots_from 0 now)) c.drafts.items p.states.items)
     ++ if_asked asked (λ r. told_each r (map (pair_at before) (not_taken p.taken.items b.spots.items)) p.left.items (map (λ _. Some Absent) p.left.items))
-    ≡ told_of asked (runs_by file now before)
-sides_told None file now before c b p h q = refl
-sides_told (Some reporting) file now before c b p h q =
+    ≡ told_of asked (runs_by v file now before)
+sides_told v None file now before c b p h q = refl
+sides_told v (Some reporting) file now before c b p h q =
     ap (λ fs. fs ++ told_each reporting (map (pair_at before) (not_taken p.taken.items b.spots.items)) p.left.items (map (λ _. Some Absent) p.left.items))
-    (current_told reporting file now before c b p h q)
-    ∙ ap (λ fs. flat_map (reported_in reporting) (current_runs file now before) ++ fs) (left_told reporting file now before c b p h q)
-    ∙ sym (flat_map-append (reported_in reporting) (current_runs file now before) (leftover_runs now before))
+    (current_told v reporting file now before c b p h q)
+    ∙ ap (λ fs. flat_map (reported_in reporting) (current_runs v file now before) ++ fs) (left_told v reporting file now before c b p h q)
+    ∙ sym (flat_map-append (reported_in reporting) (current_runs v file now before) (leftover_runs v now before))

@@ -7,7 +7,8 @@ use Rattle.sarif_model.specs.declared.kinds.Level.{Level}
 use Rattle.sarif_model.specs.declared.kinds.State.{State}
 use Rattle.sarif_model.specs.declared.kinds.State.TheVariants.{Absent}
 use Rattle.sarif_model.specs.Run.{results_of}
-use Rattle.sarif_match.specs.Partners.{partners_of}
+use Rattle.sarif_match.specs.declared.version.MatchingVersion.{MatchingVersion}
+use Rattle.sarif_match.specs.Partners.{partners_in}
 use Rattle.sarif_entries.specs.File.{File}
 use Rattle.sarif_counts.specs.CountOf.{count_of}
 use Rattle.sarif_counts.proofs.CountAppend.{count_of-append}
@@ -42,17 +43,17 @@ current_long file now before c b h =
     ∙ drafts_long (listing_of file) (applied_of file) (records_of now) (flat_map results_of (run_values now))
     (h.current_records ∙ sym (results_long (run_values now)))
 
-pub current_side : (file : File) (now before : List Placed) (c : Half) (b : Baselines) (s : Side) → AreTogether file now before c b
+pub current_side : (v : MatchingVersion) (file : File) (now before : List Placed) (c : Half) (b : Baselines) (s : Side) → AreTogether file now before c b
     → ArePartsOf own_count s.runs.items (run_values now) → AllByRecursion IsWholeRun s.runs.items
-    → s.drafts.items ≡ c.drafts.items → s.states.items ≡ map Some (states_of c.records.items b.records.items)
+    → s.drafts.items ≡ c.drafts.items → s.states.items ≡ map Some (states_of v c.records.items b.records.items)
     → IsSide s
-current_side file now before c b s h parts whole drafts states =
+current_side v file now before c b s h parts whole drafts states =
     let many = current_long file now before c b h in record {
       whole = whole;
       drafts = ap length drafts ∙ many ∙ h.current_records ∙ sym (own_total s.runs.items (run_values now) parts);
       states =
-          ap length states ∙ length-map (states_of c.records.items b.records.items) Some
-          ∙ states_long b.records.items (partners_of c.records.items b.records.items) 0 c.records.items
+          ap length states ∙ length-map (states_of v c.records.items b.records.items) Some
+          ∙ states_long v b.records.items (partners_in v c.records.items b.records.items) 0 c.records.items
           ∙ ap length h.is_current.records ∙ sym many ∙ sym (ap length drafts);
     }
 
@@ -89,67 +90,67 @@ left_is_side before b taken t h left same = record {
 
 -- ---- the log
 
-current_texts : (file : File) (now before : List Placed) (c : Half) (b : Baselines) (s : Side) → AreTogether file now before c b
+current_texts : (v : MatchingVersion) (file : File) (now before : List Placed) (c : Half) (b : Baselines) (s : Side) → AreTogether file now before c b
     → ArePartsOf own_count s.runs.items (run_values now)
-    → s.drafts.items ≡ c.drafts.items → s.states.items ≡ map Some (states_of (records_of now) (records_of before))
-    → runs_texts s.runs.items s.drafts.items s.states.items ≡ map compact_text (current_runs file now before)
-current_texts file now before c b s h parts drafts states =
+    → s.drafts.items ≡ c.drafts.items → s.states.items ≡ map Some (states_of v (records_of now) (records_of before))
+    → runs_texts s.runs.items s.drafts.items s.states.items ≡ map compact_text (current_runs v file now before)
+current_texts v file now before c b s h parts drafts states =
     ap (λ ds. runs_texts s.runs.items ds s.states.items) (drafts ∙ h.is_current.drafts)
     ∙ ap (runs_texts s.runs.items (drafts_by (listing_of file) (applied_of file) (records_of now) (flat_map results_of (run_values now)))) states
-    ∙ runs_written (listing_of file) (applied_of file) (records_of now) (states_of (records_of now) (records_of before)) s.runs.items (run_values now)
-    h.current_are_runs parts h.current_records (states_long (records_of before) (partners_of (records_of now) (records_of before)) 0 (records_of now))
+    ∙ runs_written (listing_of file) (applied_of file) (records_of now) (states_of v (records_of now) (records_of before)) s.runs.items (run_values now)
+    h.current_are_runs parts h.current_records (states_long v (records_of before) (partners_in v (records_of now) (records_of before)) 0 (records_of now))
 
-baseline_texts : (file : File) (now before : List Placed) (c : Half) (b : Baselines) (t : Side) → AreTogether file now before c b
-    → IsLeft before (taken_of (records_of now) (records_of before)) t
-    → left_texts t.runs.items t.drafts.items t.states.items ≡ map compact_text (leftover_runs now before)
-baseline_texts file now before c b t h left =
-    let taken = taken_of (records_of now) (records_of before) in
+baseline_texts : (v : MatchingVersion) (file : File) (now before : List Placed) (c : Half) (b : Baselines) (t : Side) → AreTogether file now before c b
+    → IsLeft before (taken_of v (records_of now) (records_of before)) t
+    → left_texts t.runs.items t.drafts.items t.states.items ≡ map compact_text (leftover_runs v now before)
+baseline_texts v file now before c b t h left =
+    let taken = taken_of v (records_of now) (records_of before) in
     let ds = baseline_drafts before in
-    let taken_all = taken_long (records_of now) (records_of before) in
+    let taken_all = taken_long v (records_of now) (records_of before) in
     ap (left_texts t.runs.items t.drafts.items) left.states
     ∙ ap (λ es. left_texts t.runs.items es (map (λ _. Some Absent) es)) left.drafts
     ∙ left_written (records_of before) taken t.runs.items (run_values before) ds h.baseline_are_runs left.parts h.are_baselines.count taken_all refl
     (baseline_long before b h.are_baselines ∙ sym taken_all)
 
-current_counts : (file : File) (now before : List Placed) (c : Half) (b : Baselines) (s : Side) (x : State) (l : Level) (y : Bool)
+current_counts : (v : MatchingVersion) (file : File) (now before : List Placed) (c : Half) (b : Baselines) (s : Side) (x : State) (l : Level) (y : Bool)
     → AreTogether file now before c b
-    → s.drafts.items ≡ c.drafts.items → s.states.items ≡ map Some (states_of (records_of now) (records_of before))
-    → tallied s.drafts.items s.states.items x l y ≡ count_of (current_runs file now before) x l y
-current_counts file now before c b s x l y h drafts states =
+    → s.drafts.items ≡ c.drafts.items → s.states.items ≡ map Some (states_of v (records_of now) (records_of before))
+    → tallied s.drafts.items s.states.items x l y ≡ count_of (current_runs v file now before) x l y
+current_counts v file now before c b s x l y h drafts states =
     ap (λ ds. tallied ds s.states.items x l y) (drafts ∙ h.is_current.drafts)
     ∙ ap (λ ss. tallied (drafts_by (listing_of file) (applied_of file) (records_of now) (flat_map results_of (run_values now))) ss x l y) states
-    ∙ runs_count (listing_of file) (applied_of file) (records_of now) (states_of (records_of now) (records_of before)) (run_values now) x l y
-    h.current_are_runs h.current_records (states_long (records_of before) (partners_of (records_of now) (records_of before)) 0 (records_of now))
+    ∙ runs_count (listing_of file) (applied_of file) (records_of now) (states_of v (records_of now) (records_of before)) (run_values now) x l y
+    h.current_are_runs h.current_records (states_long v (records_of before) (partners_in v (records_of now) (records_of before)) 0 (records_of now))
 
-baseline_counts : (file : File) (now before : List Placed) (c : Half) (b : Baselines) (t : Side) (x : State) (l : Level) (y : Bool)
+baseline_counts : (v : MatchingVersion) (file : File) (now before : List Placed) (c : Half) (b : Baselines) (t : Side) (x : State) (l : Level) (y : Bool)
     → AreTogether file now before c b
-    → IsLeft before (taken_of (records_of now) (records_of before)) t
-    → tallied t.drafts.items t.states.items x l y ≡ count_of (leftover_runs now before) x l y
-baseline_counts file now before c b t x l y h left =
-    let taken = taken_of (records_of now) (records_of before) in
-    let taken_all = taken_long (records_of now) (records_of before) in
+    → IsLeft before (taken_of v (records_of now) (records_of before)) t
+    → tallied t.drafts.items t.states.items x l y ≡ count_of (leftover_runs v now before) x l y
+baseline_counts v file now before c b t x l y h left =
+    let taken = taken_of v (records_of now) (records_of before) in
+    let taken_all = taken_long v (records_of now) (records_of before) in
     ap (λ ss. tallied t.drafts.items ss x l y) left.states
     ∙ ap (λ es. tallied es (map (λ _. Some Absent) es) x l y) left.drafts
     ∙ counts taken (baseline_drafts before) x l y (baseline_long before b h.are_baselines ∙ sym taken_all)
     ∙ left_count (records_of before) taken (run_values before) x l y h.baseline_are_runs h.are_baselines.count taken_all
 
-pub written : (file : File) (now before : List Placed) (c : Half) (b : Baselines) (s t : Side) → AreTogether file now before c b
+pub written : (v : MatchingVersion) (file : File) (now before : List Placed) (c : Half) (b : Baselines) (s t : Side) → AreTogether file now before c b
     → ArePartsOf own_count s.runs.items (run_values now)
-    → s.drafts.items ≡ c.drafts.items → s.states.items ≡ map Some (states_of c.records.items b.records.items)
-    → IsLeft before (taken_of (records_of now) (records_of before)) t
-    → AreWritten s t (runs_by file now before)
-written file now before c b s t h parts drafts states left =
+    → s.drafts.items ≡ c.drafts.items → s.states.items ≡ map Some (states_of v c.records.items b.records.items)
+    → IsLeft before (taken_of v (records_of now) (records_of before)) t
+    → AreWritten s t (runs_by v file now before)
+written v file now before c b s t h parts drafts states left =
     let told =
-    states ∙ ap (λ rs. map Some (states_of rs b.records.items)) h.is_current.records
-    ∙ ap (λ rs. map Some (states_of (records_of now) rs)) h.are_baselines.records in record {
+    states ∙ ap (λ rs. map Some (states_of v rs b.records.items)) h.is_current.records
+    ∙ ap (λ rs. map Some (states_of v (records_of now) rs)) h.are_baselines.records in record {
       texts =
-          map-append compact_text (current_runs file now before) (leftover_runs now before)
-          ∙ ap (λ ts. ts ++ map compact_text (leftover_runs now before)) (sym (current_texts file now before c b s h parts drafts told))
-          ∙ ap (λ ts. runs_texts s.runs.items s.drafts.items s.states.items ++ ts) (sym (baseline_texts file now before c b t h left));
+          map-append compact_text (current_runs v file now before) (leftover_runs v now before)
+          ∙ ap (λ ts. ts ++ map compact_text (leftover_runs v now before)) (sym (current_texts v file now before c b s h parts drafts told))
+          ∙ ap (λ ts. runs_texts s.runs.items s.drafts.items s.states.items ++ ts) (sym (baseline_texts v file now before c b t h left));
       counts = λ x l y.
-          ap (λ n. n + tallied t.drafts.items t.states.items x l y) (current_counts file now before c b s x l y h drafts told)
-          ∙ ap (λ n. count_of (current_runs file now before) x l y + n) (baseline_counts file now before c b t x l y h left)
-          ∙ sym (count_of-append (current_runs file now before) (leftover_runs now before) x l y);
+          ap (λ n. n + tallied t.drafts.items t.states.items x l y) (current_counts v file now before c b s x l y h drafts told)
+          ∙ ap (λ n. count_of (current_runs v file now before) x l y + n) (baseline_counts v file now before c b t x l y h left)
+          ∙ sym (count_of-append (current_runs v file now before) (leftover_runs v now before) x l y);
     }
 
 pub together : (file : File) (current baseline : Judged) (c : Half) (b : Baselines) → IsJudged file false current → IsJudged file true baseline

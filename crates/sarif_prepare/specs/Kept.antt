@@ -1,32 +1,53 @@
 -- What a merge gives for later merges, by its runs and its suppression file.
-use Rattle.std.specs.Prelude.{◌≡◌, ◌⊎◌, ℕ, List, [], Option, Some, option_map, IfSome}
+use Rattle.std.specs.Prelude.{◌≡◌, ◌⊎◌, ◌+◌, ℕ, List, [], ◌∷◌, Option, Some, None, option_map, slice_index_or, IfSome}
 use Rattle.sarif_model.specs.declared.merge_fault.MergeFault.{MergeFault}
 use Rattle.sarif_model.specs.FirstFault.{first}
 use Rattle.sarif_model.specs.MergeFault.{out_of_memory}
 use Rattle.sarif_counts.specs.declared.life.Life.{Life}
 use Rattle.sarif_options.specs.declared.policy.Policy.{Policy}
 use Rattle.sarif_options.specs.declared.upkeep.Upkeep.{Upkeep}
+use Rattle.sarif_match.specs.declared.version.MatchingVersion.{MatchingVersion}
 use Rattle.sarif_entries.specs.File.{File}
 use Rattle.sarif_runs.specs.Judging.{records_of, run_values}
 use Rattle.sarif_runs.specs.Placed.{Placed}
+use Rattle.sarif_model.specs.declared.record.Record.{Record}
+use Rattle.sarif_match.specs.Partners.{partners_in}
+use Rattle.sarif_known.specs.Standing.{standing_of}
+use Rattle.sarif_known.specs.declared.standing.Standing.{Standing}
 use Rattle.sarif_upkeep.specs.Life.{life_faults, life_of}
 use Rattle.sarif_upkeep.specs.Merge.{Merge}
 use Rattle.sarif_upkeep.specs.ReadBack.{IsReadAgain}
 use Rattle.sarif_prepare.specs.declared.file_read.FileRead.{FileRead}
-use Rattle.sarif_log.specs.LogBy.{states_of, taken_of}
+use Rattle.sarif_log.specs.LogBy.{partner_in, states_of, taken_of}
 
--- the merge of these input runs and baseline runs with this suppression file, read from these bytes, under this policy
-abbrev pub merge_of : File → Option (List ℕ) → Policy → List Placed → List Placed → Merge
-merge_of file bytes policy current baseline = record {
+-- what matching by a version says about each of these current results; the first has number n
+abbrev pub standings_from : MatchingVersion → List Record → List (Option ℕ) → ℕ → List Record
+    → List Standing
+standings_from version bs partners n [] = []
+standings_from version bs partners n (r ∷ rs) =
+    standing_of version r (partner_in bs (slice_index_or partners n None))
+    ∷ standings_from version bs partners (n + 1) rs
+
+-- what matching says about each current result
+abbrev pub standings_of : MatchingVersion → List Record → List Record → List Standing
+standings_of version cs bs = standings_from version bs (partners_in version cs bs) 0 cs
+
+-- the merge of these input runs and baseline runs, matched by this version, with this suppression file, read from these
+-- bytes, under this policy
+abbrev pub merge_of : MatchingVersion → File → Option (List ℕ) → Policy → List Placed → List Placed
+    → Merge
+merge_of version file bytes policy current baseline = record {
   file = file;
   bytes = bytes;
   policy = policy;
+  matching = version;
   runs = run_values current;
   records = records_of current;
-  states = states_of (records_of current) (records_of baseline);
+  states = states_of version (records_of current) (records_of baseline);
+  standings = standings_of version (records_of current) (records_of baseline);
   before = run_values baseline;
   known = records_of baseline;
-  taken = taken_of (records_of current) (records_of baseline);
+  taken = taken_of version (records_of current) (records_of baseline);
 }
 
 abbrev pub bytes_of : FileRead → Option (List ℕ)

@@ -1,4 +1,4 @@
-//! What a merge is asked to do.
+//! The request for a merge.
 use sarif_findings::Reporting;
 use sarif_options::{Options, Upkeep};
 

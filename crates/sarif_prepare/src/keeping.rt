@@ -49,7 +49,8 @@ fn keep(
     requires read { IsFileOf (bytes_of rules.now) rules.now.file.now }
     requires together { (current_runs : List Placed) × (baseline_runs : List Placed)
         × AreOfRuns rules.now sides.now current_runs baseline_runs }
-    requires paired { IsPaired sides.now.current.now sides.now.baselines.now sides.now.paired.now }
+    requires paired { IsPaired asked.now.options.now.checks.matching
+        sides.now.current.now sides.now.baselines.now sides.now.paired.now }
     ensures kept { KeepsIfOk rules.now asked.now sides.now (Some upkeep.now) result }
     ensures unkept { RejectsIfErr rules.now asked.now sides.now (Some upkeep.now) result }
 {
@@ -58,11 +59,13 @@ fn keep(
         file: rules.file,
         bytes: rules.bytes,
         policy: asked.options.policy,
+        matching: asked.options.checks.matching,
         current: Current {
             runs: &sides.current.runs,
             records: &sides.current.records,
             drafts: &sides.current.drafts,
             states: &states,
+            standings: &sides.paired.standings,
         },
         before: Before {
             runs: &sides.baselines.runs,
@@ -85,7 +88,8 @@ pub(crate) fn keep_if_asked(
     requires read { IsFileOf (bytes_of rules.now) rules.now.file.now }
     requires together { (current_runs : List Placed) × (baseline_runs : List Placed)
         × AreOfRuns rules.now sides.now current_runs baseline_runs }
-    requires paired { IsPaired sides.now.current.now sides.now.baselines.now sides.now.paired.now }
+    requires paired { IsPaired asked.now.options.now.checks.matching
+        sides.now.current.now sides.now.baselines.now sides.now.paired.now }
     ensures kept { KeepsIfOk rules.now asked.now sides.now (upkeep_in asked.now) result }
     ensures unkept { RejectsIfErr rules.now asked.now sides.now (upkeep_in asked.now) result }
 {

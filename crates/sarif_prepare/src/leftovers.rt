@@ -15,7 +15,7 @@ use sarif_share::{Sharing, each_of, share_jobs};
 use std::alloc::{AllocError, Global};
 use std::thread::Threads;
 
-/// Adds a result, unless it is taken.
+/// Adds a baseline result, unless it is matched.
 fn push_unless<'w, 't, 'a>(
     left: &mut Vec<Leftover<'w, 't, 'a>>,
     is_taken: bool,

@@ -2,52 +2,62 @@
 ghost use Rattle.std.specs.Prelude.{◌≡◌, ◌≤◌, length, map, Some, IfOk};
 ghost use Rattle.std.specs.List.{range_with_len};
 ghost use Rattle.sarif_match.specs.Partners.{is_taken};
-ghost use Rattle.sarif_match.specs.State.{state_of};
-ghost use Rattle.sarif_log.specs.LogBy.{partner_in, states_from, states_of, taken_of};
+ghost use Rattle.sarif_known.specs.Standing.{standing_of};
+ghost use Rattle.sarif_log.specs.LogBy.{partner_in, states_of, taken_of};
+ghost use Rattle.sarif_prepare.specs.Kept.{standings_from, standings_of};
 ghost use Rattle.sarif_model.specs.Limits.{most_results};
 
-use sarif_match::{Matching, match_all_with, state};
+use sarif_known::{Standing, standing_of};
+use sarif_match::{Matching, MatchingVersion, match_all_in};
 use sarif_model::{Record, State};
 use std::alloc::{AllocError, Global};
 use std::hash::RandomState;
 
-/// The baseline state of each current result, and whether each baseline result is the match of a current result.
+/// What matching says about each current result, and whether each baseline result is the match of a current result.
 #[derive(Drop)]
 pub(crate) struct MatchedStates {
+    pub(crate) standings: Vec<Standing>,
+    /// The states of these, each as one that is there.
     pub(crate) states: Vec<Option<State>>,
     pub(crate) taken: Vec<bool>,
 }
 
-/// Returns the baseline state of a current result with this match.
-fn state_beside(record: &Record, baseline: &[Record], partner: Option<u32>) -> State
-    ensures { result ≡ state_of «record».now (partner_in baseline.now partner) }
+/// What matching says about a current result with this match.
+fn standing_beside(
+    version: MatchingVersion,
+    record: &Record,
+    baseline: &[Record],
+    partner: Option<u32>,
+) -> Standing
+    ensures { result ≡ standing_of version «record».now (partner_in baseline.now partner) }
 {
     match partner {
-        Some(number) => state(record, baseline.get(number as usize)),
-        None => state(record, None),
+        Some(number) => standing_of(version, record, baseline.get(number as usize)),
+        None => standing_of(version, record, None),
     }
 }
 
-/// The baseline state of each current result.
-fn list_states(
+/// What matching says about each current result.
+fn list_standings(
     alloc: Global,
+    version: MatchingVersion,
     current: &[Record],
     baseline: &[Record],
     matching: &Matching,
-) -> Result<Vec<State>, AllocError>
+) -> Result<Vec<Standing>, AllocError>
     requires { length current.now ≤ most_results }
-    ensures { IfOk result
-        (λ states. states.items ≡ states_from baseline.now matching.now 0 current.now) }
+    ensures { IfOk result (λ standings.
+        standings.items ≡ standings_from version baseline.now matching.now 0 current.now) }
 {
-    let mut states = Vec::with_capacity(alloc, current.len())?;
+    let mut standings = Vec::with_capacity(alloc, current.len())?;
     for (number, record) in current.iter().enumerate() {
         let partner = matching.partner(number as u32);
-        states.push(state_beside(record, baseline, partner))?;
+        standings.push(standing_beside(version, record, baseline, partner))?;
     }
-    Ok(states)
+    Ok(standings)
 }
 
-/// Returns whether each of a number of baseline results is taken.
+/// Returns, for each of the given number of baseline results, whether it is matched.
 fn list_taken(alloc: Global, count: u32, matching: &Matching) -> Result<Vec<bool>, AllocError>
     ensures { IfOk result
         (λ taken. taken.items ≡ map (is_taken matching.now) (range_with_len 0 count)) }
@@ -59,34 +69,42 @@ fn list_taken(alloc: Global, count: u32, matching: &Matching) -> Result<Vec<bool
     Ok(taken)
 }
 
-/// These states, each as one that is there.
-fn each_there(alloc: Global, states: &[State]) -> Result<Vec<Option<State>>, AllocError>
-    ensures { IfOk result (λ all. all.items ≡ map Some states.now) }
+/// The states of these standings, each as one that is there.
+fn list_states(alloc: Global, standings: &[Standing]) -> Result<Vec<Option<State>>, AllocError>
+    ensures { IfOk result
+        (λ states. states.items ≡ map (λ standing. Some standing.state) standings.now) }
 {
-    let mut all = Vec::with_capacity(alloc, states.len())?;
-    for state in states {
-        all.push(Some(*state))?;
+    let mut states = Vec::with_capacity(alloc, standings.len())?;
+    for standing in standings {
+        states.push(Some(standing.state))?;
     }
-    Ok(all)
+    Ok(states)
 }
 
-/// Matches the results of all logs with those of all baselines, by tables that hash with `seed`.
+/// Matches the results of all logs with those of all baselines by a version, with tables that hash with `seed`.
 pub(crate) fn match_records(
     alloc: Global,
     seed: RandomState,
+    version: MatchingVersion,
     current: &[Record],
     baseline: &[Record],
 ) -> Result<MatchedStates, AllocError>
     requires current { length current.now ≤ most_results }
     requires baseline { length baseline.now ≤ most_results }
+    ensures standings { IfOk result (λ matched. matched.standings.items
+        ≡ standings_of version current.now baseline.now) }
     ensures states { IfOk result
-        (λ matched. matched.states.items ≡ map Some (states_of current.now baseline.now)) }
+        (λ matched. matched.states.items ≡ map Some (states_of version current.now baseline.now)) }
     ensures taken { IfOk result
-        (λ matched. matched.taken.items ≡ taken_of current.now baseline.now) }
+        (λ matched. matched.taken.items ≡ taken_of version current.now baseline.now) }
 {
-    let matching = match_all_with(alloc, seed, current, baseline)?;
-    let states = list_states(alloc, current, baseline, &matching)?;
+    let matching = match_all_in(alloc, seed, current, baseline, version)?;
+    let standings = list_standings(alloc, version, current, baseline, &matching)?;
+    let states = list_states(alloc, &standings)?;
     let taken = list_taken(alloc, baseline.len() as u32, &matching)?;
-    let states = each_there(alloc, &states)?;
-    Ok(MatchedStates { states, taken })
+    Ok(MatchedStates {
+        standings,
+        states,
+        taken,
+    })
 }

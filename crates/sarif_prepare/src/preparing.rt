@@ -33,6 +33,7 @@ use crate::telling::{tell_current, tell_left};
 use crate::unused::count_unused;
 use sarif_counts::Life;
 use sarif_findings::Finding;
+use sarif_known::Standing;
 use sarif_log::{Prepared, Side, Spent};
 use sarif_model::{MergeFault, Record, State};
 use sarif_options::Options;
@@ -44,6 +45,8 @@ use std::thread::Threads;
 /// How the results of logs and of baselines were matched.
 #[derive(Drop)]
 pub(crate) struct Paired {
+    /// What matching says about each current result.
+    pub(crate) standings: Vec<Standing>,
     /// The baseline state of each current result.
     pub(crate) states: Vec<Option<State>>,
     /// Whether each baseline result is the match of a current result.
@@ -74,17 +77,23 @@ fn pair_results<R: Threads + Sync>(
 ) -> Result<Paired, AllocError>
     requires { (file : File) × (current_runs : List Placed) × (baseline_runs : List Placed)
         × AreTogether file current_runs baseline_runs current.now baselines.now }
-    ensures { IfOk result (IsPaired current.now baselines.now) }
+    ensures { IfOk result (IsPaired options.now.checks.matching current.now baselines.now) }
 {
     let records = &baselines.records;
-    let MatchedStates { states, taken } = match_records(
+    let MatchedStates {
+        standings,
+        states,
+        taken,
+    } = match_records(
         alloc,
         options.seed,
+        options.checks.matching,
         &current.records,
         records,
     )?;
     let left = left_drafts(rt, alloc, baselines, &taken, options.workers + 1)?;
     Ok(Paired {
+        standings,
         states,
         taken,
         left,
@@ -103,11 +112,12 @@ fn tell_results<R: Threads + Sync>(
     requires together { (file : File)
         × (current_runs : List Placed) × (baseline_runs : List Placed)
         × AreTogether file current_runs baseline_runs current.now baselines.now }
-    requires paired { IsPaired current.now baselines.now paired.now }
+    requires paired { IsPaired asked.now.options.now.checks.matching
+        current.now baselines.now paired.now }
     ensures { IfOk result (λ findings. (file : File) (current_runs baseline_runs : List Placed)
         → AreTogether file current_runs baseline_runs current.now baselines.now
         → findings.items
-        ≡ told_of (reporting_in asked.now) (runs_by file current_runs baseline_runs)) }
+        ≡ told_of (reporting_in asked.now) (runs_by asked.now.options.now.checks.matching file current_runs baseline_runs)) }
 {
     let mut findings = tell_current(rt, alloc, asked, current, &paired.states)?;
     let left = &paired.left;
@@ -178,18 +188,21 @@ fn tell_sides<R: Threads + Sync>(
     requires read { IsFileOf (bytes_of rules.now) rules.now.file.now }
     requires together { (current_runs : List Placed) × (baseline_runs : List Placed)
         × AreTogether rules.now.file.now current_runs baseline_runs current.now baselines.now }
-    ensures paired { IfOk result (λ told. IsPaired current.now baselines.now told.paired) }
+    ensures paired { IfOk result (λ told. IsPaired asked.now.options.now.checks.matching
+        current.now baselines.now told.paired) }
     ensures findings { IfOk result (λ told. (file : File) (current_runs baseline_runs : List Placed)
         → AreTogether file current_runs baseline_runs current.now baselines.now
         → told.findings.items
-        ≡ told_of (reporting_in asked.now) (runs_by file current_runs baseline_runs)) }
+        ≡ told_of (reporting_in asked.now) (runs_by asked.now.options.now.checks.matching file current_runs baseline_runs)) }
     ensures kept { (current_runs baseline_runs : List Placed)
         → AreTogether rules.now.file.now current_runs baseline_runs current.now baselines.now
-        → IfOk result (λ told. IsKept (merge_of rules.now.file.now (bytes_of rules.now)
+        → IfOk result (λ told. IsKept (merge_of asked.now.options.now.checks.matching
+        rules.now.file.now (bytes_of rules.now)
         asked.now.options.now.policy current_runs baseline_runs) (upkeep_in asked.now) told.life) }
     ensures unkept { (current_runs baseline_runs : List Placed)
         → AreTogether rules.now.file.now current_runs baseline_runs current.now baselines.now
-        → IfErr result (IsUnkept (merge_of rules.now.file.now (bytes_of rules.now)
+        → IfErr result (IsUnkept (merge_of asked.now.options.now.checks.matching
+        rules.now.file.now (bytes_of rules.now)
         asked.now.options.now.policy current_runs baseline_runs) (upkeep_in asked.now)) }
 {
     let paired = pair_results(rt, alloc, current, baselines, asked.options)?;
@@ -222,16 +235,18 @@ fn prepare_sides<R: Threads + Sync>(
         × AreTogether rules.now.file.now current_runs baseline_runs current baselines }
     ensures prepared { IfOk result (λ prepared. (current_runs baseline_runs : List Placed)
         → AreTogether rules.now.file.now current_runs baseline_runs current.entry baselines.entry
-        → IsPrepared rules.now.file.now current_runs baseline_runs
+        → IsPrepared asked.now.options.now.checks.matching rules.now.file.now current_runs baseline_runs
         (reporting_in asked.now) prepared) }
     ensures kept { (current_runs baseline_runs : List Placed)
         → AreTogether rules.now.file.now current_runs baseline_runs current.entry baselines.entry
-        → IfOk result (λ prepared. IsKept (merge_of rules.now.file.now (bytes_of rules.now)
+        → IfOk result (λ prepared. IsKept (merge_of asked.now.options.now.checks.matching
+        rules.now.file.now (bytes_of rules.now)
         asked.now.options.now.policy current_runs baseline_runs) (upkeep_in asked.now)
         prepared.life) }
     ensures unkept { (current_runs baseline_runs : List Placed)
         → AreTogether rules.now.file.now current_runs baseline_runs current.entry baselines.entry
-        → IfErr result (IsUnkept (merge_of rules.now.file.now (bytes_of rules.now)
+        → IfErr result (IsUnkept (merge_of asked.now.options.now.checks.matching
+        rules.now.file.now (bytes_of rules.now)
         asked.now.options.now.policy current_runs baseline_runs) (upkeep_in asked.now)) }
 {
     let ReportedSides {
@@ -243,6 +258,7 @@ fn prepare_sides<R: Threads + Sync>(
         states,
         taken,
         left,
+        ..
     } = paired;
     let unmatched = left_side(alloc, baselines, &taken, left)?;
     let CurrentSide {
@@ -284,12 +300,14 @@ pub fn prepare<R: Threads + Sync>(
     requires read { IsFileOf (bytes_of rules.now) rules.now.file.now }
     requires current { IsJudged rules.now.file.now false current }
     requires baseline { IsJudged rules.now.file.now true baseline }
-    ensures prepared { IfOk result (IsPrepared rules.now.file.now (placed_in current.entry)
+    ensures prepared { IfOk result (IsPrepared asked.now.options.now.checks.matching rules.now.file.now (placed_in current.entry)
         (placed_in baseline.entry) (reporting_in asked.now)) }
-    ensures kept { IfOk result (λ prepared. IsKept (merge_of rules.now.file.now (bytes_of rules.now)
+    ensures kept { IfOk result (λ prepared. IsKept (merge_of asked.now.options.now.checks.matching
+        rules.now.file.now (bytes_of rules.now)
         asked.now.options.now.policy (placed_in current.entry) (placed_in baseline.entry))
         (upkeep_in asked.now) prepared.life) }
-    ensures unkept { IfErr result (IsUnkept (merge_of rules.now.file.now (bytes_of rules.now)
+    ensures unkept { IfErr result (IsUnkept (merge_of asked.now.options.now.checks.matching
+        rules.now.file.now (bytes_of rules.now)
         asked.now.options.now.policy (placed_in current.entry) (placed_in baseline.entry))
         (upkeep_in asked.now)) }
 {

@@ -174,7 +174,7 @@ pub(crate) fn tell_current<R: Threads + Sync>(
     tell_all(rt, alloc, reporting, &told, asked.options.workers)
 }
 
-/// Adds a spot, unless it is taken.
+/// Adds a spot, unless its baseline result is matched.
 fn push_unless(left: &mut Vec<Spot>, is_taken: bool, spot: Spot) -> Result<(), AllocError>
     ensures { OnOk result
         (left.new.items ≡ left.old.items ++ not_taken (is_taken ∷ []) (spot ∷ [])) }
@@ -185,7 +185,7 @@ fn push_unless(left: &mut Vec<Spot>, is_taken: bool, spot: Spot) -> Result<(), A
     Ok(())
 }
 
-/// Returns the spots that are not taken.
+/// Returns the spots of baseline results that are not matched.
 fn left_spots(alloc: Global, spots: &[Spot], taken: &[bool]) -> Result<Vec<Spot>, AllocError>
     requires { length taken.now ≡ length spots.now }
     ensures { IfOk result (λ left. left.items ≡ not_taken taken.now spots.now) }
@@ -197,7 +197,7 @@ fn left_spots(alloc: Global, spots: &[Spot], taken: &[bool]) -> Result<Vec<Spot>
     Ok(left)
 }
 
-/// Returns the findings of the baseline results that are not taken, which have these drafts, as absent.
+/// Returns the findings of the baseline results that are not matched, which have these drafts, as absent.
 pub(crate) fn tell_left<R: Threads + Sync>(
     rt: &R,
     alloc: Global,

@@ -13,17 +13,24 @@ use Rattle.sarif_counts.specs.CountOf.{carries, items_in, suppresses}
 use Rattle.sarif_counts.specs.Tally.{same_level, same_side}
 use Rattle.sarif_counts.proofs.Carried.{carries-written}
 
-pub state_found : (level : Level) (state : State) (list : Items) (ms : Members) → get_member (codes "baselineState") (annotated_members level state list ms) ≡ Some (string (state_name state))
-state_found level state list ms = get_member-put (codes "baselineState") (string (state_name state)) (put (codes "level") (string (level_name level)) (put (codes "suppressions") (array list) ms))
+pub state_found : (level : Level) (state : State) (list : Items) (ms : Members)
+    → get_member (codes "baselineState") (annotated_members level state list ms) ≡ Some (string (state_name state))
+state_found level state list ms =
+    get_member-put (codes "baselineState") (string (state_name state))
+    (put (codes "level") (string (level_name level)) (put (codes "suppressions") (array list) ms))
 
-pub level_found : (level : Level) (state : State) (list : Items) (ms : Members) → get_member (codes "level") (annotated_members level state list ms) ≡ Some (string (level_name level))
+pub level_found : (level : Level) (state : State) (list : Items) (ms : Members)
+    → get_member (codes "level") (annotated_members level state list ms) ≡ Some (string (level_name level))
 level_found level state list ms =
-    get_member-put_other (codes "level") (codes "baselineState") (string (state_name state)) (put (codes "level") (string (level_name level)) (put (codes "suppressions") (array list) ms)) (λ e. cc)
+    get_member-put_other (codes "level") (codes "baselineState") (string (state_name state))
+    (put (codes "level") (string (level_name level)) (put (codes "suppressions") (array list) ms)) (λ e. cc)
     ∙ get_member-put (codes "level") (string (level_name level)) (put (codes "suppressions") (array list) ms)
 
-pub list_found : (level : Level) (state : State) (list : Items) (ms : Members) → get_member (codes "suppressions") (annotated_members level state list ms) ≡ Some (array list)
+pub list_found : (level : Level) (state : State) (list : Items) (ms : Members)
+    → get_member (codes "suppressions") (annotated_members level state list ms) ≡ Some (array list)
 list_found level state list ms =
-    get_member-put_other (codes "suppressions") (codes "baselineState") (string (state_name state)) (put (codes "level") (string (level_name level)) (put (codes "suppressions") (array list) ms)) (λ e. cc)
+    get_member-put_other (codes "suppressions") (codes "baselineState") (string (state_name state))
+    (put (codes "level") (string (level_name level)) (put (codes "suppressions") (array list) ms)) (λ e. cc)
     ∙ get_member-put_other (codes "suppressions") (codes "level") (string (level_name level)) (put (codes "suppressions") (array list) ms) (λ e. cc)
     ∙ get_member-put (codes "suppressions") (array list) ms
 

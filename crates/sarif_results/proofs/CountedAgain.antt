@@ -35,7 +35,8 @@ counted_accepted Rejected = refl
 abbrev of_member : Option Data → Result Status Fault
 of_member found = of_kind BadSuppression as_status (option_and_then unless_null found) >>= λ status. Ok (unwrap_or status Accepted)
 
-named : (found : Option Status) (status : Status) → (or_wrong BadSuppression found >>= λ s. Ok (unwrap_or s Accepted)) ≡ Ok status → counts.names_accepted found ≡ is_accepted status
+named : (found : Option Status) (status : Status) → (or_wrong BadSuppression found >>= λ s. Ok (unwrap_or s Accepted)) ≡ Ok status
+    → counts.names_accepted found ≡ is_accepted status
 named None status read = let never : ⊥ = cc in absurd never
 named (Some one) status read = counted_accepted one ∙ ap is_accepted (one_status one status read)
 
@@ -50,7 +51,8 @@ member_accepted (Some (object ms)) status read = let never : ⊥ = cc in absurd 
 
 accepted : (d : Data) (status : Status) → status_of d ≡ Ok status → counts.accepts (get (codes "status") d) ≡ is_accepted status
 accepted d status read =
-    elim (check_suppression_kind d) as (λ kind. (kind >>= λ _. of_member (get (codes "status") d)) ≡ Ok status → counts.accepts (get (codes "status") d) ≡ is_accepted status) [
+    elim (check_suppression_kind d) as
+    (λ kind. (kind >>= λ _. of_member (get (codes "status") d)) ≡ Ok status → counts.accepts (get (codes "status") d) ≡ is_accepted status) [
       | Ok _ ↦ λ is. member_accepted (get (codes "status") d) status is
       | Err fault ↦ λ no. let never : ⊥ = cc in absurd never
     ] read
@@ -78,11 +80,15 @@ says (d ∷ ds) statuses read =
       | Err fault ↦ λ is no. let never : ⊥ = cc in absurd never
     ] refl read
 
-pub counted_again : ((own : List Data) (file : File) (r : Record) → read_each status_of own ≡ Ok r.held → result_map statuses_suppress (read_each status_of (suppressions_of own file r)) ≡ Ok (is_suppressed file r))
-    → (own : List Data) (file : File) (r : Record) → read_each status_of own ≡ Ok r.held → counts.suppresses (items_of (suppressions_of own file r)) ≡ is_suppressed file r
+pub counted_again : ((own : List Data) (file : File) (r : Record) → read_each status_of own ≡ Ok r.held
+    → result_map statuses_suppress (read_each status_of (suppressions_of own file r)) ≡ Ok (is_suppressed file r))
+    → (own : List Data) (file : File) (r : Record) → read_each status_of own ≡ Ok r.held
+    → counts.suppresses (items_of (suppressions_of own file r)) ≡ is_suppressed file r
 counted_again read_back own file r held =
     let written = suppressions_of own file r in
-    elim (read_each status_of written) as (λ ss. read_each status_of written ≡ ss → result_map statuses_suppress ss ≡ Ok (is_suppressed file r) → counts.suppresses (items_of written) ≡ is_suppressed file r) [
+    elim (read_each status_of written) as
+    (λ ss. read_each status_of written ≡ ss → result_map statuses_suppress ss ≡ Ok (is_suppressed file r)
+    → counts.suppresses (items_of written) ≡ is_suppressed file r) [
       | Ok statuses ↦ λ are is. (says written statuses are).counted ∙ one_answer (statuses_suppress statuses) (is_suppressed file r) is
       | Err fault ↦ λ are no. let never : ⊥ = cc in absurd never
     ] refl (read_back own file r held)

@@ -29,10 +29,20 @@ pub draft_is : (listed : Listing) (applied : Record → Applied) (r : Record) (m
 draft_is listed applied r ms es draft a list is taken applies lists =
     is
     ∙ ap (λ x. finished r.level a list x) taken
-    ∙ ap (λ x. record { level = r.level; suppressed = suppresses list; applied = a; text = surrounding (codes "baselineState") (put (codes "level") (string (level_name r.level)) x) }) (put_put (codes "suppressions") (array list) null ms)
+    ∙ ap
+    (λ x. record {
+      level = r.level;
+      suppressed = suppresses list;
+      applied = a;
+      text =
+          surrounding (codes "baselineState") (put (codes "level") (string (level_name r.level)) x);
+    })
+    (put_put (codes "suppressions") (array list) null ms)
     ∙ ap (λ x. finished r.level x list ms) applies
     ∙ ap (λ x. finished r.level (applied r) x ms) lists
 
-pub drafted_whole : (level : Level) (list : Items) (ms : Members) → items_have_float list ≡ false → members_have_float ms ≡ false → members_have_float (drafted_members level list ms) ≡ false
+pub drafted_whole : (level : Level) (list : Items) (ms : Members) → items_have_float list ≡ false → members_have_float ms ≡ false
+    → members_have_float (drafted_members level list ms) ≡ false
 drafted_whole level list ms of_list of_ms =
-    put_whole (codes "level") (string (level_name level)) (put (codes "suppressions") (array list) ms) refl (put_whole (codes "suppressions") (array list) ms of_list of_ms)
+    put_whole (codes "level") (string (level_name level)) (put (codes "suppressions") (array list) ms) refl
+    (put_whole (codes "suppressions") (array list) ms of_list of_ms)

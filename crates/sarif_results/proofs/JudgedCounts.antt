@@ -37,17 +37,20 @@ many : (p : Placed) (at : ℕ → At) (n a m : ℕ) → a + m ≡ length (result
 many p at n a zero all sound = sym (ap (λ ds. length (kept (skips p.source) ds)) (drop_all a (results_of p.run) (omega arith)))
 many p at n a (suc m) all sound =
     let rest = drop (a + 1) (results_of p.run) in
-    one (skips p.source && is_absent_result (result_at p.run a)) (record_of p.options.read_regions p.run a) at n (map (item_of p) (range_with_len (a + 1) m)) (result_at p.run a)
+    one (skips p.source && is_absent_result (result_at p.run a)) (record_of p.options.records p.run a) at n
+    (map (item_of p) (range_with_len (a + 1) m)) (result_at p.run a)
     (kept (skips p.source) rest) sound (many p at (n + 1) (a + 1) m (omega arith))
     ∙ sym (ap (λ ds. length (kept (skips p.source) ds)) (drop_more (results_of p.run) a null (omega arith)))
 
-pub no_fault : (source : Source) (number : ℕ) (opening : Option Fault) (items : List Item) → opened_or source number opening items ≡ [] → first_bad (Single source number) 0 items ≡ []
+pub no_fault : (source : Source) (number : ℕ) (opening : Option Fault) (items : List Item) → opened_or source number opening items ≡ []
+    → first_bad (Single source number) 0 items ≡ []
 no_fault source number None items sound = sound
 no_fault source number (Some fault) items sound = cc
 
 -- a faultless run has a record of each result that isn't skipped
 of_run : (p : Placed) → run_faults p ≡ [] → length (records_in (items_of p)) ≡ length (kept (skips p.source) (results_of p.run))
-of_run p sound = many p (Single p.source p.number) 0 0 (length (results_of p.run)) (omega arith) (no_fault p.source p.number (opening_fault p) (items_of p) sound)
+of_run p sound = many p (Single p.source p.number) 0 0 (length (results_of p.run)) (omega arith)
+    (no_fault p.source p.number (opening_fault p) (items_of p) sound)
 
 kept_all : (skip : Bool) → skip ≡ false → (ds : List Data) → length (kept skip ds) ≡ length ds
 kept_all true is ds = cc

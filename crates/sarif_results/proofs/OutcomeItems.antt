@@ -31,7 +31,8 @@ all_items file (p ∷ ps) =
 records_append : (xs ys : List Item) → records_in (xs ++ ys) ≡ records_in xs ++ records_in ys
 records_append [] ys = refl
 records_append (x ∷ xs) ys = one_more x (records_append xs ys) where
-  one_more : (i : Item) → records_in (xs ++ ys) ≡ records_in xs ++ records_in ys → with_record i (records_in (xs ++ ys)) ≡ with_record i (records_in xs) ++ records_in ys
+  one_more : (i : Item) → records_in (xs ++ ys) ≡ records_in xs ++ records_in ys
+      → with_record i (records_in (xs ++ ys)) ≡ with_record i (records_in xs) ++ records_in ys
   one_more (Sound r) rest = ap (λ rs. r ∷ rs) rest
   one_more (Bad fault) rest = rest
   one_more Skipped rest = rest

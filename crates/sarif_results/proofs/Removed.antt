@@ -20,12 +20,14 @@ stays true same v rest found k d ms ns is none later = absurd (some≢none none)
 stays false true v rest found k d ms ns is none later = cc
 stays false false v rest found k d ms ns is none later = ap (λ m. member k d m) (later none)
 
-gone : (name : List ℕ) (es : List Entry) → lookup (is_at (λ k. slice_cmp nat_cmp name (string_bytes k))) es ≡ None → without name (members_view es) ≡ members_view es
+gone : (name : List ℕ) (es : List Entry) → lookup (is_at (λ k. slice_cmp nat_cmp name (string_bytes k))) es ≡ None
+    → without name (members_view es) ≡ members_view es
 gone name [] none = refl
 gone name (e ∷ es) none =
-    stays (is_eq (slice_cmp nat_cmp name (string_bytes e.0))) (bytes_eq name (string_bytes e.0)) e.1 es _ (string_bytes e.0) (view e.1) (members_view es) (without name (members_view es)) (is_eq-slice_cmp name (string_bytes e.0)) none (gone name es)
+    stays (is_eq (slice_cmp nat_cmp name (string_bytes e.0))) (bytes_eq name (string_bytes e.0)) e.1 es _ (string_bytes e.0) (view e.1)
+    (members_view es) (without name (members_view es)) (is_eq-slice_cmp name (string_bytes e.0)) none (gone name es)
 
--- the same for a name that is there
+-- removing a member by its name, one entry at a time
 drops : (here same : Bool) (e : Entry) (es rest : List Entry) (name k : List ℕ) (d : Data)
     → here ≡ same
     → (here ≡ true → members_view es ≡ without name (members_view es))

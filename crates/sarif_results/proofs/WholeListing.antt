@@ -23,14 +23,17 @@ objects_whole : ((e : Entry) → has_float (object_of e) ≡ false) → (es : Li
 objects_whole each [] = refl
 objects_whole each (e ∷ es) = rw (each e, objects_whole each es)
 
-pub suppressions_whole : ((accepts : Data → Bool) (own : List Data) (file : File) (r : Record) → list_all accepts (suppressions_of own file r) ≡ (list_all accepts own && list_all (λ e. accepts (object_of e)) (matching file r)))
+pub suppressions_whole :
+    ((accepts : Data → Bool) (own : List Data) (file : File) (r : Record)
+    → list_all accepts (suppressions_of own file r) ≡ (list_all accepts own && list_all (λ e. accepts (object_of e)) (matching file r)))
     → ((e : Entry) → has_float (object_of e) ≡ false)
     → (file : File) (r : Record) (own : List Data) → list_any has_float own ≡ false → list_any has_float (suppressions_of own file r) ≡ false
 suppressions_whole passes each file r own of_own =
     let is_whole : Data → Bool = λ d. not (has_float d) in
     let own_passes : list_all is_whole own ≡ true = none_is_all_not has_float own ∙ ap not of_own in
     let all : list_all is_whole (suppressions_of own file r) ≡ true =
-    passes is_whole own file r ∙ ap (λ b. b && list_all (λ e. not (has_float (object_of e))) (matching file r)) own_passes ∙ objects_whole each (matching file r) in
+    passes is_whole own file r ∙ ap (λ b. b && list_all (λ e. not (has_float (object_of e))) (matching file r)) own_passes
+    ∙ objects_whole each (matching file r) in
     not-true (list_any has_float (suppressions_of own file r)) (sym (none_is_all_not has_float (suppressions_of own file r)) ∙ all)
 
 pub items_whole : (ds : List Data) → items_have_float (items_of ds) ≡ list_any has_float ds

@@ -15,7 +15,8 @@ use Rattle.json_parts.specs.Without.{without}
 
 -- ---- what is left
 
-without_at : (same : Bool) (k : List ℕ) (d : Data) (ms : Members) → has_float d ≡ false → members_have_float ms ≡ false → members_have_float (if same then ms else member k d ms) ≡ false
+without_at : (same : Bool) (k : List ℕ) (d : Data) (ms : Members) → has_float d ≡ false → members_have_float ms ≡ false
+    → members_have_float (if same then ms else member k d ms) ≡ false
 without_at true k d ms of_d of_ms = of_ms
 without_at false k d ms of_d of_ms = rw (of_d, of_ms)
 
@@ -44,7 +45,8 @@ abbrev pub list_float : Option Items → Bool
 list_float None = false
 list_float (Some ds) = items_have_float ds
 
-found_at : (o : Ordering) (d : Data) (found : Option Data) → has_float d ≡ false → found_float found ≡ false → found_float (match_ordering o found (Some d) found) ≡ false
+found_at : (o : Ordering) (d : Data) (found : Option Data) → has_float d ≡ false → found_float found ≡ false
+    → found_float (match_ordering o found (Some d) found) ≡ false
 found_at Less d found of_d of_rest = of_rest
 found_at Equal d found of_d of_rest = of_d
 found_at Greater d found of_d of_rest = of_rest

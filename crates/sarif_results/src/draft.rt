@@ -16,7 +16,7 @@ use sarif_suppress::{Applied, Suppressions, written_passes_where_its_parts_do};
 use serde_json::{Map, Value, put};
 use std::alloc::{AllocError, Global};
 
-/// A result with its level and its suppressions, as a text that is open at its baseline state (SARIF 2.1.0,
+/// A result with its level and its suppressions, as JSON that is open at its baseline state (SARIF 2.1.0,
 /// "result object").
 #[derive(Debug, Drop)]
 pub struct Draft {

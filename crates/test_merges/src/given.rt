@@ -1,5 +1,8 @@
 //! The inputs of a merge.
+ghost use Rattle.std.specs.Prelude.{◌≡◌, IfOk};
+
 use crate::runs::log_of;
+use sarif_model::{Sequence, Text};
 use sarif_options::{Checks, Policy};
 use sarif_streams::SourceBytes;
 use std::alloc::{AllocError, Global};
@@ -35,7 +38,7 @@ impl Given {
                 suppressions: None,
             },
             policy: Policy::default(),
-            checks: Checks::default(),
+            checks: Checks::new(alloc),
             today: None,
             workers: 1,
             bytes: ZEROS,
@@ -63,6 +66,29 @@ impl Given {
         self.sources.suppressions = Some(text.as_bytes().to_vec(alloc)?);
         Ok(())
     }
+}
+
+/// A copy of these checks. Returns `AllocError` if memory runs out.
+pub(crate) fn copy_of(alloc: Global, checks: &Checks) -> Result<Checks, AllocError>
+    ensures { IfOk result (λ copy. copy ≡ checks.now) }
+{
+    let ignored = copy_names(alloc, checks.ignored.as_slice())?;
+    Ok(Checks {
+        require_success: checks.require_success,
+        allow_external: checks.allow_external,
+        matching: checks.matching,
+        ignored,
+    })
+}
+
+fn copy_names(alloc: Global, names: &[Text]) -> Result<Sequence<Text>, AllocError>
+    ensures { IfOk result (λ copy. copy ≡ names.now) }
+{
+    let mut copy = Sequence::new(alloc);
+    for name in names {
+        copy.push(name.clone()?)?;
+    }
+    Ok(copy)
 }
 
 /// One log with these runs.

@@ -6,7 +6,7 @@ ghost use Rattle.sarif_merge.specs.MergedLog.{output_text};
 ghost use Rattle.sarif_model.specs.FirstFault.{IsOutOfResources};
 ghost use Rattle.sarif_streams.specs.WereRead.{contents_of};
 
-use crate::given::{Given, seed_of};
+use crate::given::{Given, copy_of, seed_of};
 use crate::runs::json_of_runs;
 use crate::wanted::{ExpectedCounts, text_of};
 use sarif_counts::Verdict;
@@ -41,7 +41,7 @@ pub fn merge_watched<G: Gate + Sync, R: AllocGlobal + Threads + Wait + Sync>(
     }
     let options = Options {
         policy: given.policy,
-        checks: given.checks,
+        checks: copy_of(rt.alloc(), &given.checks)?,
         today: given.today,
         workers,
         seed: seed_of(given.bytes)?,

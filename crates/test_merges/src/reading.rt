@@ -69,7 +69,12 @@ pub fn readers_of<'t>(alloc: Global, texts: Texts<'t>) -> Result<Readers<&'t [u8
 }
 
 /// Returns the options of a merge by this many workers, with the default checks, on a system whose random bytes are 0.
-pub fn options_by(policy: Policy, today: Option<u32>, workers: u32) -> Result<Options, AllocError>
+pub fn options_by(
+    alloc: Global,
+    policy: Policy,
+    today: Option<u32>,
+    workers: u32,
+) -> Result<Options, AllocError>
     requires workers { (1 ≤ workers) × (workers ≤ most_workers) }
     ensures policy { IfOk result (λ options. options.policy ≡ policy) }
     ensures today { IfOk result (λ options. options.today ≡ today) }
@@ -77,7 +82,7 @@ pub fn options_by(policy: Policy, today: Option<u32>, workers: u32) -> Result<Op
 {
     Ok(Options {
         policy,
-        checks: Checks::default(),
+        checks: Checks::new(alloc),
         today,
         workers,
         seed: seed_of(ZEROS)?,

@@ -13,6 +13,6 @@ within_shards shards = flat_map (λ shard. shard) shards
 abbrev pub flattened : List (Whole (List Outcome) ⊤) → List Outcome
 flattened runs = flat_map (λ w. within_shards w.items) runs
 
--- the same, if the runs are in reverse order
+-- one list of all, from runs that are in reverse order
 abbrev pub flattened_from : List (Vec (List Outcome) Global) → List Outcome
 flattened_from stack = flat_map within_shards (reverse (map (λ v. v.items) stack))

@@ -10,10 +10,10 @@ pub record IsSide (side : Side) : Type 0 where
   pub drafts : length side.drafts.items ≡ counts_in_parts side.runs.items
   pub states : length side.states.items ≡ length side.drafts.items
 
--- the texts of all runs
+-- the JSON of all runs, run by run
 abbrev pub texts_of_runs : Side → List (List ℕ)
 texts_of_runs side = runs_texts side.runs.items side.drafts.items side.states.items
 
--- the texts of the runs that have a written result
+-- the JSON of the runs that have a written result, run by run
 abbrev pub texts_of_left : Side → List (List ℕ)
 texts_of_left side = left_texts side.runs.items side.drafts.items side.states.items

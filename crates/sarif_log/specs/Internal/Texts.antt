@@ -24,9 +24,9 @@ abbrev pub unless_taken : Bool → Option State
 unless_taken true = None
 unless_taken false = Some Absent
 
--- ---- texts
+-- ---- strings
 
--- texts with commas between them
+-- strings with commas between them
 abbrev pub joined : Bool → List (List ℕ) → List ℕ
 joined later [] = []
 joined later (t ∷ ts) = comma_if later ++ (t ++ joined true ts)
@@ -40,13 +40,13 @@ abbrev pub with_text : Option State → Draft → List (List ℕ) → List (List
 with_text None draft ts = ts
 with_text (Some state) draft ts = text_with state draft ∷ ts
 
--- the texts of the written ones
+-- the JSON of the results that are written, one string for each
 abbrev pub texts_of : List Draft → List (Option State) → List (List ℕ)
 texts_of [] states = []
 texts_of (draft ∷ drafts) [] = []
 texts_of (draft ∷ drafts) (state ∷ states) = with_text state draft (texts_of drafts states)
 
--- a run's text with the texts of its results, if it is written with results
+-- the JSON of a run, with the JSON of its results if it is written with results
 abbrev pub run_text : Members → Option (List (List ℕ)) → List ℕ
 run_text ms None = compact_text (object ms)
 run_text ms (Some ts) =
@@ -82,7 +82,7 @@ parts_text parts drafts states =
     run_text (members_view parts.members.entries)
     (option_map (λ _. texts_of drafts states) parts.results)
 
--- the texts of runs in order; the drafts and states are those of all their results
+-- the JSON of runs in order, one string for each; the drafts and states are those of all their results
 abbrev pub runs_texts : List RunParts → List Draft → List (Option State) → List (List ℕ)
 runs_texts [] drafts states = []
 runs_texts (parts ∷ more) drafts states =
@@ -94,7 +94,7 @@ abbrev pub text_if : Bool → List ℕ → List (List ℕ) → List (List ℕ)
 text_if true t ts = t ∷ ts
 text_if false t ts = ts
 
--- the texts of only those runs that have a written result
+-- the JSON of only the runs that have a written result, one string for each
 abbrev pub left_texts : List RunParts → List Draft → List (Option State) → List (List ℕ)
 left_texts [] drafts states = []
 left_texts (parts ∷ more) drafts states =
@@ -117,7 +117,7 @@ own_count run = option_map (λ ds. length (elements ds)) (results_array run)
 abbrev pub present_count : Data → Option ℕ
 present_count run = Some (length (present (results_of run)))
 
--- these are the parts of these runs, with these numbers of results
+-- parts are those of these runs, with these numbers of results
 abbrev pub ArePartsOf : (Data → Option ℕ) → List RunParts → List Data → Type 0
 ArePartsOf count [] [] = ⊤
 ArePartsOf count [] (run ∷ runs) = ⊥

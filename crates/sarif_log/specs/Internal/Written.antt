@@ -19,7 +19,7 @@ pub record AreCounted (drafts : List Draft) (states : List (Option State)) (coun
       → count_at counts state level suppressed ≡ tallied drafts states state level suppressed
   pub few : total_of counts ≤ length drafts
 
--- the texts and the counts of the runs of logs, and of the unmatched results of baselines, are those of these runs
+-- the JSON and the counts of the runs of logs, and of the unmatched results of baselines, are those of these runs
 pub record AreWritten (current baseline : Side) (runs : List Data) : Type 0 where
   pub texts : map compact_text runs ≡ texts_of_runs current ++ texts_of_left baseline
   pub counts : (state : State) (level : Level) (suppressed : Bool)

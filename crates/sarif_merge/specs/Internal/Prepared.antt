@@ -17,7 +17,8 @@ use Rattle.sarif_merge.specs.MergedLog.{file_in}
 pub record IsPreparedFor (inputs : Inputs) (policy : Policy) (asked : Option Reporting)
     (upkeep : Option Upkeep) (prepared : Prepared) : Type 0 where
   pub faultless : faults_of inputs ≡ []
-  pub written : IsPrepared (file_in (file_or_none inputs.suppressions inputs.today))
+  pub written : IsPrepared inputs.checks.matching
+      (file_in (file_or_none inputs.suppressions inputs.today))
       (placed (numbered inputs.checks Log 0 inputs.logs))
       (placed (numbered inputs.checks Baseline 0 inputs.baselines))
       asked prepared

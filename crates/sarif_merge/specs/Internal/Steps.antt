@@ -7,6 +7,7 @@ use Rattle.sarif_model.specs.MergeFault.{exit_status}
 use Rattle.sarif_model.specs.Run.{results_total}
 use Rattle.sarif_model.specs.declared.merge_fault.MergeFault.{MergeFault}
 use Rattle.sarif_options.specs.declared.policy.Policy.{Policy}
+use Rattle.sarif_match.specs.declared.version.MatchingVersion.{MatchingVersion}
 use Rattle.sarif_entries.specs.File.{File}
 use Rattle.sarif_runs.specs.Judging.{faults_of_runs, run_values}
 use Rattle.sarif_runs.specs.Internal.Opened.{placed_of}
@@ -41,6 +42,10 @@ unfoldable pub IsRejection : Merging → MergeFault → Type 0
 IsRejection m fault =
     IsRefusal (inputs_in m) (policy_in m) (upkeep_in m.asked.now) fault
     × (exit_status fault.cause ≡ 2)
+
+-- the version by which its results are matched
+abbrev pub matching_in : Merging → MatchingVersion
+matching_in m = m.asked.now.options.now.checks.matching
 
 -- the indexes of its sources, those of the logs first
 unfoldable pub AreIndexesIn : Merging → List (Result (List Token) IndexFault) → Type 0

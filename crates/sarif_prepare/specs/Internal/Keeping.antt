@@ -19,7 +19,8 @@ AreOfRuns rules sides current_runs baseline_runs =
 -- the merge of these runs
 abbrev pub merge_by : FileRead → Asked → List Placed → List Placed → Merge
 merge_by rules asked current_runs baseline_runs =
-    merge_of rules.file.now (bytes_of rules) asked.options.now.policy current_runs baseline_runs
+    merge_of asked.options.now.checks.matching rules.file.now (bytes_of rules)
+    asked.options.now.policy current_runs baseline_runs
 
 -- what is given for later merges is that of the merge of the sides' runs
 abbrev pub KeepsIfOk : FileRead → Asked → Sides → Option Upkeep → Result Life MergeFault → Type 0

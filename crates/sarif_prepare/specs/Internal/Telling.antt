@@ -24,7 +24,7 @@ told_as reporting run result draft (Some state) =
     if are_shown reporting state draft.level && not draft.suppressed
     then Some (finding_of reporting run result draft.level state) else None
 
--- the same for results, each with its run
+-- the findings of results, each with its run, that are written and shown
 abbrev pub told_each : Reporting → List (Data × Data) → List Draft → List (Option State)
     → List Finding
 told_each reporting [] drafts states = []

@@ -51,7 +51,9 @@ loop-run-preserved c =
     let below : l.run-index < length runs = omega arith in
     let step : drop l.run-index runs ≡ run ∷ later = drop_more runs l.run-index run below ∙ ap (λ r. r ∷ later) (sym c.run-item.is) in
     let judged = l.invariant.0 ∙ ap (λ rs. flat_map items_of (map placed_of rs)) step in (
-      ap (map (λ o. o.item)) c.split_at.ensures.back ∙ (items_cut l.outcomes.now (placed_of run) (map placed_of later) c.len.result judged c.len.ensures.count).2,
+      ap (map (λ o. o.item)) c.split_at.ensures.back
+          ∙ (items_cut l.outcomes.now (placed_of run) (map placed_of later) c.len.result judged c.len.ensures.count).2,
       l.invariant.1 ∙ ap (λ rs. faults_of_runs (map placed_of rs)) step
-          ∙ goes_on (placed_of run) (map placed_of later) c.fault_of_run-found.result c.fault_of_run-found.ensures.first (sym c.is_some.ensures ∙ c.if-is_some.false),
+          ∙ goes_on (placed_of run) (map placed_of later) c.fault_of_run-found.result c.fault_of_run-found.ensures.first
+          (sym c.is_some.ensures ∙ c.if-is_some.false),
     )

@@ -39,7 +39,8 @@ returns g c =
     let long : length c.deref.result.now ≡ n = search rules in
     let are : c.deref.result.now ≡ spots_from 0 ps = c.deref.ensures.value ∙ c.in_ok-spots.ensures in
     let pos : 0 < size = omega arith in
-    let enough : length c.deref.result.now ≤ shards * size = subst (λ k. k ≤ shards * size) (sym long) (shards_enough n size shards pos (ap (λ k. k / size + 1) same)) in
+    let enough : length c.deref.result.now ≤ shards * size =
+    subst (λ k. k ≤ shards * size) (sym long) (shards_enough n size shards pos (ap (λ k. k / size + 1) same)) in
     c.in_ok-all.ensures ∙ c.in_ok-stack.ensures
     ∙ all_parts c.args.file.now ps size shards c.deref.result.now c.in_ok-lists.lists c.in_ok-lists.ensures enough
     ∙ ap (map (outcome_at c.args.file.now ps)) are

@@ -19,8 +19,8 @@ returns c = λ inputs.
     let now = input_runs inputs in
     let before = baseline_runs inputs in
     let reads = c.read_runs_hold_no_fraction.ensures in
-    both_whole (current_runs (file_given inputs) now before) (leftover_runs now before)
-    (c.written_runs_hold_no_fraction.ensures.current (file_given inputs) (records_of now) (states_of (records_of now) (records_of before))
+    both_whole (current_runs inputs.checks.matching (file_given inputs) now before) (leftover_runs inputs.checks.matching now before)
+    (c.written_runs_hold_no_fraction.ensures.current (file_given inputs) (records_of now) (states_of inputs.checks.matching (records_of now) (records_of before))
     (run_values now) (whole reads (log_sources inputs)))
-    (c.written_runs_hold_no_fraction.ensures.baseline (records_of before) (taken_of (records_of now) (records_of before)) (run_values before)
+    (c.written_runs_hold_no_fraction.ensures.baseline (records_of before) (taken_of inputs.checks.matching (records_of now) (records_of before)) (run_values before)
     (whole reads (baseline_sources inputs)))

@@ -11,12 +11,12 @@ life_of-requires c =
     let now = c.requires.together.0 in
     let before = c.requires.together.1 in
     let h = c.requires.together.2 in (
-      merge_of rules.file.now (bytes_of rules) c.args.asked.now.options.now.policy now before,
-      matched_is rules.file.now (bytes_of rules)
+      merge_of c.args.asked.now.options.now.checks.matching rules.file.now (bytes_of rules) c.args.asked.now.options.now.policy now before,
+      matched_is c.args.asked.now.options.now.checks.matching rules.file.now (bytes_of rules)
           c.args.asked.now.options.now.policy now before sides.current.now sides.baselines.now sides.paired.now _ h c.requires.paired c.requires.read
-          refl refl refl c.deref-2.ensures.value c.deref-3.ensures.value c.deref-4.ensures.value
+          refl refl refl refl c.deref-2.ensures.value c.deref-3.ensures.value c.deref-4.ensures.value
           (c.deref-5.ensures.value ∙ c.in_ok-states.ensures ∙ states_there c.deref.result.now _ (c.deref.ensures.value ∙ c.requires.paired.states))
-          c.deref-6.ensures.value c.deref-7.ensures.value c.deref-8.ensures.value c.deref-9.ensures.value,
+          c.deref-6.ensures.value c.deref-7.ensures.value c.deref-8.ensures.value c.deref-9.ensures.value c.deref-10.ensures.value,
     )
 
 pub returns-in_err-life-clause-unkept : goal.returns-in_err-life-clause-unkept
@@ -24,24 +24,24 @@ returns-in_err-life-clause-unkept c = λ now before h.
     let rules = c.args.rules.now in
     let sides = c.args.sides.now in
     let p = err_from_is_err_and c.from_residual-in_err-life.result c.from_residual-in_err-life.ensures.1 in
-    rw (p.1, p.2) (c.in_err-life.ensures.refused (merge_of rules.file.now (bytes_of rules) c.args.asked.now.options.now.policy now before)
-    (matched_is rules.file.now (bytes_of rules)
+    rw (p.1, p.2) (c.in_err-life.ensures.refused (merge_of c.args.asked.now.options.now.checks.matching rules.file.now (bytes_of rules) c.args.asked.now.options.now.policy now before)
+    (matched_is c.args.asked.now.options.now.checks.matching rules.file.now (bytes_of rules)
     c.args.asked.now.options.now.policy now before sides.current.now sides.baselines.now sides.paired.now _ h c.requires.paired c.requires.read
-    refl refl refl c.deref-2.ensures.value c.deref-3.ensures.value c.deref-4.ensures.value
+    refl refl refl refl c.deref-2.ensures.value c.deref-3.ensures.value c.deref-4.ensures.value
     (c.deref-5.ensures.value ∙ c.in_ok-states.ensures ∙ states_there c.deref.result.now _ (c.deref.ensures.value ∙ c.requires.paired.states))
-    c.deref-6.ensures.value c.deref-7.ensures.value c.deref-8.ensures.value c.deref-9.ensures.value))
+    c.deref-6.ensures.value c.deref-7.ensures.value c.deref-8.ensures.value c.deref-9.ensures.value c.deref-10.ensures.value))
 
 pub returns-clause-kept : goal.returns-clause-kept
 returns-clause-kept c = λ now before h.
     let rules = c.args.rules.now in
     let sides = c.args.sides.now in
-    let m = merge_of rules.file.now (bytes_of rules) c.args.asked.now.options.now.policy now before in
+    let m = merge_of c.args.asked.now.options.now.checks.matching rules.file.now (bytes_of rules) c.args.asked.now.options.now.policy now before in
     let is =
-    matched_is rules.file.now (bytes_of rules)
+    matched_is c.args.asked.now.options.now.checks.matching rules.file.now (bytes_of rules)
     c.args.asked.now.options.now.policy now before sides.current.now sides.baselines.now sides.paired.now _ h c.requires.paired c.requires.read
-    refl refl refl c.deref-2.ensures.value c.deref-3.ensures.value c.deref-4.ensures.value
+    refl refl refl refl c.deref-2.ensures.value c.deref-3.ensures.value c.deref-4.ensures.value
     (c.deref-5.ensures.value ∙ c.in_ok-states.ensures ∙ states_there c.deref.result.now _ (c.deref.ensures.value ∙ c.requires.paired.states))
-    c.deref-6.ensures.value c.deref-7.ensures.value c.deref-8.ensures.value c.deref-9.ensures.value in record {
+    c.deref-6.ensures.value c.deref-7.ensures.value c.deref-8.ensures.value c.deref-9.ensures.value c.deref-10.ensures.value in record {
       faultless = c.in_ok-life.ensures.sound m is;
       is = c.in_ok-life.ensures.made m is;
       read = c.in_ok-life.ensures.read m is;

@@ -13,7 +13,8 @@ use Rattle.sarif_prepare.proofs.preparing.prepare_sides.Goals as goal
 
 pub left_side-requires-clause-taken : goal.left_side-requires-clause-taken
 left_side-requires-clause-taken g c =
-    ap length (c.deref.ensures.value ∙ c.in_ok-paired.ensures.paired.taken) ∙ taken_long c.args.current.records.items c.args.baselines.records.items
+    ap length (c.deref.ensures.value ∙ c.in_ok-paired.ensures.paired.taken)
+    ∙ taken_long c.args.asked.now.options.now.checks.matching c.args.current.records.items c.args.baselines.records.items
 
 pub invariant_of-result : goal.invariant_of-result
 invariant_of-result g c =
@@ -29,12 +30,14 @@ invariant_of-result g c =
     c.in_ok-unmatched.ensures before h.are_baselines
     (q.left before h.are_baselines ∙ ap (λ ts. not_taken ts (baseline_drafts before)) (sym c.deref.ensures.value)) in
     let taken_all =
-    ap length (c.deref.ensures.value ∙ q.taken) ∙ taken_long c.args.current.records.items c.args.baselines.records.items ∙ ap length h.are_baselines.records in
+    ap length (c.deref.ensures.value ∙ q.taken)
+    ∙ taken_long c.args.asked.now.options.now.checks.matching c.args.current.records.items c.args.baselines.records.items
+    ∙ ap length h.are_baselines.records in
     let many = current_long file now before c.args.current c.args.baselines h in
     let drafts = ap length c.in_ok-side.ensures.drafts in
     let fewer = left_few before c.args.baselines taken t h.are_baselines left in record {
       current_is =
-          current_side file now before c.args.current c.args.baselines s h
+          current_side c.args.asked.now.options.now.checks.matching file now before c.args.current c.args.baselines s h
           (subst (λ ps. ArePartsOf own_count s.runs.items (run_values ps)) h.is_current.opened c.in_ok-side.ensures.parts)
           c.in_ok-side.ensures.whole c.in_ok-side.ensures.drafts (c.in_ok-side.ensures.states ∙ q.states);
       baseline_is = left_is_side before c.args.baselines taken t h.are_baselines left taken_all;
@@ -52,10 +55,11 @@ returns-clause-prepared g c = λ now before h.
     c.in_ok-unmatched.ensures before h.are_baselines
     (q.left before h.are_baselines ∙ ap (λ ts. not_taken ts (baseline_drafts before)) (sym c.deref.ensures.value)) in
     let taken =
-    c.deref.ensures.value ∙ q.taken ∙ ap (λ rs. taken_of rs c.args.baselines.records.items) h.is_current.records
-    ∙ ap (taken_of (records_of now)) h.are_baselines.records in record {
+    c.deref.ensures.value ∙ q.taken ∙ ap (λ rs. taken_of c.args.asked.now.options.now.checks.matching rs c.args.baselines.records.items) h.is_current.records
+    ∙ ap (taken_of c.args.asked.now.options.now.checks.matching (records_of now)) h.are_baselines.records in record {
       written =
-          written file now before c.args.current c.args.baselines s t h parts c.in_ok-side.ensures.drafts (c.in_ok-side.ensures.states ∙ q.states)
+          written c.args.asked.now.options.now.checks.matching file now before c.args.current c.args.baselines s t h parts
+          c.in_ok-side.ensures.drafts (c.in_ok-side.ensures.states ∙ q.states)
           (subst (λ ts. IsLeft before ts t) taken left);
       without = without_results s.runs.items (run_values now) c.in_ok-side.field-0.without parts c.in_ok-side.ensures.without;
       unused =

@@ -1,7 +1,7 @@
 use Rattle.std.proofs.Common.{◌++◌, Some, map, length, sym, ap, ◌∙◌}
 use Rattle.std.proofs.lemmas.List.{length-map}
 use Rattle.sarif_model.specs.declared.kinds.State.TheVariants.{Absent}
-use Rattle.sarif_match.specs.Partners.{partners_of}
+use Rattle.sarif_match.specs.Partners.{partners_in}
 use Rattle.sarif_prepare.specs.Internal.Leftover.{found_at, not_taken}
 use Rattle.sarif_runs.specs.Internal.Spots.{spots_from}
 use Rattle.sarif_runs.proofs.AllSpots.{spots_count}
@@ -28,15 +28,17 @@ tell_current-requires-clause-states g c κs within =
     let h = c.requires.together.3 in
     let cs = c.args.current.now.records.items in
     let bs = c.args.baselines.now.records.items in
-    ap length (c.deref.ensures.value ∙ c.requires.paired.states) ∙ length-map (states_of cs bs) Some
-    ∙ states_long bs (partners_of cs bs) 0 cs ∙ ap length h.is_current.records
+    ap length (c.deref.ensures.value ∙ c.requires.paired.states) ∙ length-map (states_of c.args.asked.now.options.now.checks.matching cs bs) Some
+    ∙ states_long c.args.asked.now.options.now.checks.matching bs (partners_in c.args.asked.now.options.now.checks.matching cs bs) 0 cs
+    ∙ ap length h.is_current.records
     ∙ sym (current_long c.requires.together.0 c.requires.together.1 c.requires.together.2 c.args.current.now c.args.baselines.now h)
 
 pub tell_left-requires-clause-taken : goal.tell_left-requires-clause-taken
 tell_left-requires-clause-taken g c κs within =
     let b = c.requires.together.3.are_baselines in
     let spots = c.args.baselines.now.spots.items in
-    ap length (c.deref-2.ensures.value ∙ c.requires.paired.taken) ∙ taken_long c.args.current.now.records.items c.args.baselines.now.records.items
+    ap length (c.deref-2.ensures.value ∙ c.requires.paired.taken)
+    ∙ taken_long c.args.asked.now.options.now.checks.matching c.args.current.now.records.items c.args.baselines.now.records.items
     ∙ ap length b.records ∙ b.count ∙ sym (ap length b.spots) ∙ length-map spots (found_at c.requires.together.2)
 
 pub tell_left-requires-clause-drafts : goal.tell_left-requires-clause-drafts
@@ -47,7 +49,9 @@ tell_left-requires-clause-drafts g c κs within =
     let spots = c.args.baselines.now.spots.items in
     let taken = c.args.paired.now.taken.items in
     let taken_all =
-    ap length q.taken ∙ taken_long c.args.current.now.records.items c.args.baselines.now.records.items ∙ ap length b.records in
+    ap length q.taken
+    ∙ taken_long c.args.asked.now.options.now.checks.matching c.args.current.now.records.items c.args.baselines.now.records.items
+    ∙ ap length b.records in
     let spots_all = sym (length-map spots (found_at before)) ∙ ap length b.spots ∙ sym b.count in
     ap length (c.deref-3.ensures.value ∙ q.left before b)
     ∙ long taken (baseline_drafts before) spots (baseline_long before c.args.baselines.now b ∙ sym taken_all) (spots_all ∙ sym taken_all)
@@ -75,4 +79,4 @@ returns g c = λ file now before h.
     c.deref-3.ensures.value in
     c.in_ok-append.ensures.items ∙ ap (λ fs. fs ++ c.in_ok-absent.absent.items) current
     ∙ ap (λ fs. if_asked asked (λ r. told_each r (map (pair_at now) (spots_from 0 now)) drafts c.args.paired.now.states.items) ++ fs) absent
-    ∙ sides_told asked file now before c.args.current.now c.args.baselines.now c.args.paired.now h c.requires.paired
+    ∙ sides_told c.args.asked.now.options.now.checks.matching asked file now before c.args.current.now c.args.baselines.now c.args.paired.now h c.requires.paired

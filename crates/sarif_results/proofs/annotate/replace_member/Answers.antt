@@ -7,8 +7,10 @@ use Rattle.sarif_results.proofs.annotate.replace_member.Goals as goal
 
 pub returns-clause-found : goal.returns-clause-found
 returns-clause-found c =
-    ap (option_map view) c.in_ok-old.ensures.old ∙ view-lookup (string_bytes c.in_ok-key.key) c.args.members.now.entries ∙ ap (λ k. get_member k (members_view c.args.members.now.entries)) c.in_ok-key.ensures.ok
+    ap (option_map view) c.in_ok-old.ensures.old ∙ view-lookup (string_bytes c.in_ok-key.key) c.args.members.now.entries
+    ∙ ap (λ k. get_member k (members_view c.args.members.now.entries)) c.in_ok-key.ensures.ok
 
 pub returns-clause-left : goal.returns-clause-left
 returns-clause-left c =
-    ap members_view c.in_ok-old.ensures.entries ∙ members_view-insert_entry c.args.members.now.entries c.in_ok-key.key c.args.value ∙ ap (λ k. put k (view c.args.value) (members_view c.args.members.now.entries)) c.in_ok-key.ensures.ok
+    ap members_view c.in_ok-old.ensures.entries ∙ members_view-insert_entry c.args.members.now.entries c.in_ok-key.key c.args.value
+    ∙ ap (λ k. put k (view c.args.value) (members_view c.args.members.now.entries)) c.in_ok-key.ensures.ok

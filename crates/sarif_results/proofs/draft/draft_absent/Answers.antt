@@ -14,12 +14,14 @@ use Rattle.sarif_results.proofs.draft.draft_absent.Goals as goal
 
 pub finish_draft-requires-clause-members : goal.finish_draft-requires-clause-members
 finish_draft-requires-clause-members c =
-    ap members_have_float c.in_ok-own.ensures.left ∙ put_whole (codes "suppressions") null (members_view c.into_members-members.result.entries) refl c.into_members-members.ensures.whole
+    ap members_have_float c.in_ok-own.ensures.left
+    ∙ put_whole (codes "suppressions") null (members_view c.into_members-members.result.entries) refl c.into_members-members.ensures.whole
 
 pub finish_draft-requires-clause-list : goal.finish_draft-requires-clause-list
 finish_draft-requires-clause-list c =
     let ms = members_view c.into_members-members.result.entries in
-    ap items_have_float c.in_ok-own.ensures.taken ∙ items_in_whole (get_member (codes "suppressions") ms) (found_whole (codes "suppressions") ms c.into_members-members.ensures.whole)
+    ap items_have_float c.in_ok-own.ensures.taken
+    ∙ items_in_whole (get_member (codes "suppressions") ms) (found_whole (codes "suppressions") ms c.into_members-members.ensures.whole)
 
 pub returns : goal.returns
 returns c =

@@ -18,7 +18,8 @@ use Rattle.sarif_results.proofs.draft.draft_current.Goals as goal
 
 pub finish_draft-requires-clause-members : goal.finish_draft-requires-clause-members
 finish_draft-requires-clause-members c =
-    ap members_have_float c.in_ok-own.ensures.left ∙ put_whole (codes "suppressions") null (members_view c.into_members-members.result.entries) refl c.into_members-members.ensures.whole
+    ap members_have_float c.in_ok-own.ensures.left
+    ∙ put_whole (codes "suppressions") null (members_view c.into_members-members.result.entries) refl c.into_members-members.ensures.whole
 
 pub finish_draft-requires-clause-list : goal.finish_draft-requires-clause-list
 finish_draft-requires-clause-list c =
@@ -27,7 +28,8 @@ finish_draft-requires-clause-list c =
     let ms = members_view c.into_members-members.result.entries in
     let own = map view c.in_ok-own.own.items in
     let of_own : list_any has_float own ≡ false =
-    sym (items_whole own) ∙ ap items_have_float c.in_ok-own.ensures.taken ∙ items_in_whole (get_member (codes "suppressions") ms) (found_whole (codes "suppressions") ms c.into_members-members.ensures.whole) in
+    sym (items_whole own) ∙ ap items_have_float c.in_ok-own.ensures.taken
+    ∙ items_in_whole (get_member (codes "suppressions") ms) (found_whole (codes "suppressions") ms c.into_members-members.ensures.whole) in
     let listed = c.in_ok-list.ensures r c.in_ok-applied.ensures.entries in
     items_whole (map view c.in_ok-list.list.items) ∙ ap (list_any has_float) listed
     ∙ suppressions_whole c.written_passes_where_its_parts_do.ensures c.object_holds_no_fraction.ensures file r own of_own
@@ -42,8 +44,10 @@ returns c =
     let a = c.in_ok-applied.applied in
     let listed = c.in_ok-list.ensures r c.in_ok-applied.ensures.entries in
     let owned : own ≡ elements (own_suppressions ms) = sym (items_back own) ∙ ap elements (c.in_ok-own.ensures.taken ∙ ap own_suppressions there) in
-    draft_is (λ r own. suppressions_of own file r) (applied_of file) r ms (members_view c.take_suppressions.new.members.entries) c.in_ok-draft.draft a (items_view c.in_ok-list.list.items)
+    draft_is (λ r own. suppressions_of own file r) (applied_of file) r ms
+    (members_view c.take_suppressions.new.members.entries) c.in_ok-draft.draft a (items_view c.in_ok-list.list.items)
     c.in_ok-draft.ensures
     (c.in_ok-own.ensures.left ∙ ap (λ ns. put (codes "suppressions") null ns) there)
-    (ap (λ es. record { entries = es; suppressed = a.suppressed }) c.in_ok-applied.ensures.entries ∙ ap (λ b. record { entries = matching_numbers file r; suppressed = b }) c.in_ok-applied.ensures.verdict)
+    (ap (λ es. record { entries = es; suppressed = a.suppressed }) c.in_ok-applied.ensures.entries
+    ∙ ap (λ b. record { entries = matching_numbers file r; suppressed = b }) c.in_ok-applied.ensures.verdict)
     (ap items_of listed ∙ ap (λ ds. items_of (suppressions_of ds file r)) owned)
