@@ -1,5 +1,5 @@
 -- The law of accepting.
-use Rattle.std.proofs.Common.{◌≡◌, ◌+◌, ◌-◌, ◌<◌, ◌≤◌, ℕ, Bool, true, false, List, [], length, get_or, length-append, Option, Some, None, Ok, Result, codes, bytes_eq, refl, sym, ap, subst, ◌∙◌, arith, if◌then◌else◌}
+use Rattle.std.proofs.Common.{◌≡◌, ◌+◌, ◌-◌, ◌<◌, ◌≤◌, ◌&&◌, ℕ, Bool, true, false, List, [], length, get_or, length-append, Option, Some, None, Ok, Result, codes, bytes_eq, refl, sym, ap, subst, ◌∙◌, arith, if◌then◌else◌}
 use Rattle.std.specs.Prelude.{count_by, flat_map, nat_lt}
 use Rattle.std.specs.List.{AllByRecursion}
 use Rattle.std.proofs.lemmas.Bool.{ltb-true, ltb-false}
@@ -13,12 +13,16 @@ use Rattle.sarif_options.specs.declared.policy.Policy.{Policy}
 use Rattle.sarif_options.specs.declared.upkeep.Renewal.{Renewal}
 use Rattle.sarif_counts.specs.CountOf.{count_of}
 use Rattle.sarif_counts.specs.Hits.{hits_of}
-use Rattle.sarif_match.specs.State.{is_unchanged, state_of}
+use Rattle.sarif_match.specs.declared.version.MatchingVersion.{MatchingVersion}
+use Rattle.sarif_match.specs.declared.version.MatchingVersion.TheVariants.{Two, Three}
+use Rattle.sarif_match.specs.Evidence.{has_evidence, state_in}
+use Rattle.sarif_match.specs.Seen.{seen}
+use Rattle.sarif_match.specs.State.{is_unchanged}
 use Rattle.sarif_model.specs.declared.kinds.State.TheVariants.{Unchanged, Updated}
 use Rattle.sarif_runs.specs.Judging.{records_of, run_values}
 use Rattle.sarif_runs.specs.Record.{record_of}
 use Rattle.sarif_inputs.specs.Faults.{faults_of}
-use Rattle.sarif_inputs.specs.Inputs.{Inputs, baseline_runs, input_runs, reads_regions}
+use Rattle.sarif_inputs.specs.Inputs.{Inputs, baseline_runs, input_runs, record_options}
 use Rattle.sarif_log.specs.LogBy.{listing_of, states_of, taken_of}
 use Rattle.sarif_log.specs.MergedRuns.{written}
 use Rattle.sarif_merge.specs.Life.{merge_in}
@@ -43,11 +47,16 @@ use Rattle.sarif_laws.proofs.Read.{record_read}
 one_record : (a b : Record) → ◌≡◌ {A = Result Record Fault} (Ok a) (Ok b) → a ≡ b
 one_record a b is = cc
 
+one_of_two : (b : Bool) → bytes_eq (codes "absent") (state_name (if b then Unchanged else Updated)) ≡ false
+one_of_two true = refl
+one_of_two false = refl
+
 -- a current result isn't absent
-current_state : (r : Record) (partner : Option Record) → bytes_eq (codes "absent") (state_name (state_of r partner)) ≡ false
-current_state r None = refl
-current_state r (Some other) =
-    elim (is_unchanged r other) as (λ b. bytes_eq (codes "absent") (state_name (if b then Unchanged else Updated)) ≡ false) [ true ↦ refl | false ↦ refl ]
+current_state : (v : MatchingVersion) (r : Record) (partner : Option Record) → bytes_eq (codes "absent") (state_name (state_in v r partner)) ≡ false
+current_state Two r None = refl
+current_state Two r (Some other) = one_of_two (is_unchanged r other)
+current_state Three r None = refl
+current_state Three r (Some other) = one_of_two (is_unchanged r other && has_evidence (seen r) (seen other))
 
 dated_until : (today until : Option ℕ) → IsUntil today until → IsDated today until
 dated_until today None is = tt
@@ -100,17 +109,17 @@ module _ (inputs : Inputs) (policy : Policy) (renewal : Renewal) (text : List �
   later_none = faultless_later inputs policy renewal text none small dated is
 
   -- the same result in the next merge
-  later_result : (k seq : ℕ) (r : Record) → IsResult inputs k seq → record_of (reads_regions inputs.checks) (run_at inputs k) seq ≡ Ok r
+  later_result : (k seq : ℕ) (r : Record) → IsResult inputs k seq → record_of (record_options inputs.checks) (run_at inputs k) seq ≡ Ok r
       → result_at (written_run (with_file inputs text) k) seq
-      ≡ written (listing_of (later_file inputs policy renewal)) r (state_of r (partner_at inputs (number_among_all inputs k seq)))
+      ≡ written (listing_of (later_file inputs policy renewal)) r (state_in inputs.checks.matching r (partner_at inputs (number_among_all inputs k seq)))
       (result_at (run_at inputs k) seq)
   later_result k seq r there read =
       let own = own_result (with_file inputs text) k seq later_none there in
       let place = number_among_all inputs k seq in
       let d = result_at (run_at inputs k) seq in
       own.2
-      ∙ ap (λ x. written (listing_of (file_given (with_file inputs text))) x (state_of x (partner_at inputs place)) d) (one_record own.0 r (sym own.1 ∙ read))
-      ∙ ap (λ file. written (listing_of file) r (state_of r (partner_at inputs place)) d) (later_is inputs policy renewal text none small dated is)
+      ∙ ap (λ x. written (listing_of (file_given (with_file inputs text))) x (state_in inputs.checks.matching x (partner_at inputs place)) d) (one_record own.0 r (sym own.1 ∙ read))
+      ∙ ap (λ file. written (listing_of file) r (state_in inputs.checks.matching r (partner_at inputs place)) d) (later_is inputs policy renewal text none small dated is)
 
   left_current : (k seq : ℕ) → IsResult inputs k seq
       → IsLeft policy (result_at (written_run inputs k) seq) (result_at (written_run (with_file inputs text) k) seq)
@@ -119,9 +128,9 @@ module _ (inputs : Inputs) (policy : Policy) (renewal : Renewal) (text : List �
       let r = own.0 in
       let file = file_given inputs in
       let rs = current_of inputs in
-      let states = states_of rs (baseline_of inputs) in
+      let states = states_of inputs.checks.matching rs (baseline_of inputs) in
       let place = number_among_all inputs k seq in
-      let state = state_of r (partner_at inputs place) in
+      let state = state_in inputs.checks.matching r (partner_at inputs place) in
       let at = has_place inputs k seq r none there own.1 in
       let how = how_of (merge_in inputs policy) renewal in
       let until_file : IsUntil file.today renewal.until = subst (λ today. IsUntil today renewal.until) (sym (same_today inputs none)) until in
@@ -130,7 +139,7 @@ module _ (inputs : Inputs) (policy : Policy) (renewal : Renewal) (text : List �
       (hits_after how (may_hit policy) file rs states r state place at.in_records at.in_states at.record_is at.state_is accepts until_file)
       (still_suppressed how (may_hit policy) file rs states r place at.in_records at.record_is)
       (λ given. list_begins how (may_hit policy) file rs states r place given at.in_records at.record_is)
-      (current_state r (partner_at inputs place)) (result_at (run_at inputs k) seq) (record_read (reads_regions inputs.checks) (run_at inputs k) seq r own.1) in
+      (current_state inputs.checks.matching r (partner_at inputs place)) (result_at (run_at inputs k) seq) (record_read (record_options inputs.checks) (run_at inputs k) seq r own.1) in
       subst (λ before. IsLeft policy before (result_at (written_run (with_file inputs text) k) seq)) (sym own.2)
       (subst (IsLeft policy (written_by inputs r place (result_at (run_at inputs k) seq))) (sym (later_result k seq r there own.1)) left)
 
@@ -149,7 +158,7 @@ module _ (inputs : Inputs) (policy : Policy) (renewal : Renewal) (text : List �
   left_absent : (k seq : ℕ) → IsLeft policy (result_at (get_or (absent_written inputs) k null) seq) (result_at (get_or (absent_written inputs) k null) seq)
   left_absent k seq =
       let all =
-      absent_stay policy (records_of (baseline_runs inputs)) (taken_of (current_of inputs) (baseline_of inputs))
+      absent_stay policy (records_of (baseline_runs inputs)) (taken_of inputs.checks.matching (current_of inputs) (baseline_of inputs))
       (run_values (baseline_runs inputs)) in
       let run = all_at (λ x. AllByRecursion (StaysIfHit policy) (results_of x)) (absent_written inputs) k null all tt in
       left_same policy (result_at (get_or (absent_written inputs) k null) seq)

@@ -10,7 +10,9 @@ use Rattle.std.proofs.lemmas.Slice.Eq.{bytes_eq-Decides}
 use Rattle.sarif_model.specs.declared.record.Record.{Record}
 use Rattle.sarif_entries.specs.Matching.{is_empty}
 use Rattle.sarif_known.specs.Chosen.{Chosen}
-use Rattle.sarif_known.specs.Order.{known_runs, once_each, runs_of_tool}
+use Rattle.sarif_match.specs.declared.version.MatchingVersion.{MatchingVersion}
+use Rattle.sarif_match.specs.declared.version.MatchingVersion.TheVariants.{Two, Three}
+use Rattle.sarif_known.specs.Order.{in_turn, known_runs, once_each, runs_of_tool}
 use Rattle.sarif_laws.proofs.Arranged.{of_tool}
 use Rattle.sarif_laws.proofs.Keyed.{tool_of}
 use Rattle.sarif_laws.proofs.Lists.{all_append}
@@ -158,10 +160,14 @@ module _ (t : List ℕ) where
       ap (list_any (bytes_eq t)) (map-append (λ (run : Chosen). run.tool) xs ys) ∙ list_any-append (bytes_eq t) (names xs) (names ys)
       ∙ or_from (list_any (bytes_eq t) (names xs)) (list_any (bytes_eq t) (names ys)) parts.1 parts.0
 
-  pub known_of_tool : (current baseline : List Chosen) → AllByRecursion IsOfOne current → AllByRecursion IsOfOne baseline
-      → of_tool tool_of t (records_among (known_runs current baseline)) ≡ of_tool tool_of t (records_among current ++ records_among baseline)
-  known_of_tool current baseline now before =
+  -- the records of the known log, of this tool: those of its runs in turn
+  pub known_of_tool : (version : MatchingVersion) (current baseline : List Chosen) → AllByRecursion IsOfOne current → AllByRecursion IsOfOne baseline
+      → of_tool tool_of t (records_among (known_runs version current baseline)) ≡ of_tool tool_of t (records_among (in_turn version current baseline))
+  known_of_tool Two current baseline now before =
       let sound = all_append IsOfOne current baseline now before in
       found_once (current ++ baseline) sound [] (map (λ run. run.tool) (baseline ++ current)) refl
       (λ none. none_named (current ++ baseline) sound (names_apart current baseline none))
-      ∙ ap (of_tool tool_of t) (flat_map-append (λ (run : Chosen). run.records) current baseline)
+  known_of_tool Three current baseline now before =
+      let sound = all_append IsOfOne baseline current before now in
+      found_once (baseline ++ current) sound [] (map (λ run. run.tool) (baseline ++ current)) refl
+      (λ none. none_named (baseline ++ current) sound none)

@@ -36,7 +36,7 @@ file_is : (read : Result File FileFault) → file_faults read ≡ [] → read �
 file_is (Ok file) none = refl
 file_is (Err fault) none = let never : ⊥ = cc in absurd never
 
--- it is read without an error
+-- the file is read without an error
 pub input_file : (inputs : Inputs) → faults_of inputs ≡ [] → file_or_none inputs.suppressions inputs.today ≡ Ok (file_given inputs)
 input_file inputs none =
     let runs = faults_of_runs (all_runs inputs) in
@@ -47,7 +47,7 @@ input_file inputs none =
     let after_sources = no_faults_left sources (files ++ runs) after_baselines in
     file_is (file_or_none inputs.suppressions inputs.today) (no_faults_here files runs after_sources)
 
--- it was read for the date of the inputs
+-- the file was read for the date of the inputs
 pub same_today : (inputs : Inputs) → faults_of inputs ≡ [] → (file_given inputs).today ≡ inputs.today
 same_today inputs none = today_given inputs.suppressions inputs.today (file_given inputs) (input_file inputs none)
 
@@ -93,7 +93,7 @@ another_file (x ∷ a) b c d e more none new = let never : ⊥ = cc in absurd ne
 abbrev pub later_file : Inputs → Policy → Renewal → File
 later_file inputs policy renewal =
     file_after (how_of (merge_in inputs policy) renewal) (may_hit policy) (file_given inputs) (current_of inputs)
-    (states_of (current_of inputs) (baseline_of inputs))
+    (states_of inputs.checks.matching (current_of inputs) (baseline_of inputs))
 
 module _ (inputs : Inputs) (policy : Policy) (renewal : Renewal) (text : List ℕ) (none : faults_of inputs ≡ [])
     (small : renewal_faults (merge_in inputs policy) renewal ≡ [])
@@ -101,7 +101,7 @@ module _ (inputs : Inputs) (policy : Policy) (renewal : Renewal) (text : List �
   later_read : file_of text inputs.today ≡ Ok (later_file inputs policy renewal)
   later_read =
       let rs = current_of inputs in
-      let states = states_of rs (baseline_of inputs) in
+      let states = states_of inputs.checks.matching rs (baseline_of inputs) in
       new_file_read (how_of (merge_in inputs policy) renewal) (may_hit policy) inputs.suppressions inputs.today (file_given inputs) rs states text
       (input_file inputs none)
       (added_fit renewal.accept (accepted_among (may_hit policy) (file_given inputs) rs states)

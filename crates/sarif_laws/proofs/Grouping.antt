@@ -7,7 +7,9 @@ use Rattle.std.proofs.lemmas.Bool.{or_parts, or_left}
 use Rattle.sarif_entries.specs.Matching.{is_empty}
 use Rattle.sarif_known.specs.Chosen.{Chosen, results_among}
 use Rattle.sarif_known.specs.Internal.Groups.{AreApart}
-use Rattle.sarif_known.specs.Order.{known_runs, runs_of_tool, tools_of}
+use Rattle.sarif_match.specs.declared.version.MatchingVersion.{MatchingVersion}
+use Rattle.sarif_match.specs.declared.version.MatchingVersion.TheVariants.{Two, Three}
+use Rattle.sarif_known.specs.Order.{in_turn, known_runs, runs_of_tool, tools_of}
 use Rattle.sarif_known.proofs.Grouped.{tools_apart}
 
 -- a tool that comes before isn't among those that follow
@@ -98,13 +100,17 @@ module _ (weight : Chosen → ℕ) where
   grouped [] before tools apart = let nothing = ap total (none_at_all tools) in omega (arith, nothing)
   grouped (run ∷ all) before tools apart = omega (arith, one_more run all before tools apart, grouped all before tools apart)
 
-  pub known_total : (current baseline : List Chosen) → total (known_runs current baseline) ≤ total current + total baseline
-  known_total current baseline =
+  turn_total : (version : MatchingVersion) (current baseline : List Chosen) → total (in_turn version current baseline) ≡ total current + total baseline
+  turn_total Two current baseline = total-append current baseline
+  turn_total Three current baseline = let both = total-append baseline current in omega (arith, both)
+
+  pub known_total : (version : MatchingVersion) (current baseline : List Chosen) → total (known_runs version current baseline) ≤ total current + total baseline
+  known_total version current baseline =
       omega (
         arith,
-        grouped (current ++ baseline) [] (tools_of (baseline ++ current))
+        grouped (in_turn version current baseline) [] (tools_of (baseline ++ current))
             (tools_apart (baseline ++ current) (tools_of (baseline ++ current)) refl),
-        total-append current baseline,
+        turn_total version current baseline,
       )
 
 -- how many runs and results there are

@@ -15,17 +15,21 @@ use Rattle.sarif_entries.specs.Matching.{is_empty}
 use Rattle.sarif_runs.specs.Judging.{faults_of_runs, items_of, records_in, records_of, run_faults, run_values, skips}
 use Rattle.sarif_runs.specs.Placed.{Placed}
 use Rattle.sarif_results.proofs.JudgedCounts.{no_faults_here, no_faults_left, records_of_baseline, records_of_log}
+use Rattle.sarif_match.specs.declared.version.MatchingVersion.{MatchingVersion}
+use Rattle.sarif_match.specs.declared.version.MatchingVersion.TheVariants.{Two, Three}
+use Rattle.sarif_runs.specs.declared.run_options.RecordOptions.{RecordOptions}
 use Rattle.sarif_known.specs.Chosen.{Chosen, results_among}
 use Rattle.sarif_known.specs.Laws.{IsOfTool}
-use Rattle.sarif_known.specs.Order.{known_runs, runs_of_tool, tools_of}
+use Rattle.sarif_known.specs.Order.{in_turn, known_runs, runs_of_tool, tools_of}
+use Rattle.sarif_known.specs.declared.standing.Standing.{Standing}
 use Rattle.sarif_known.specs.Selected.{is_left_out, keep_unless, kept_of, known_of, unmatched_of}
 use Rattle.sarif_upkeep.specs.Known.{chosen_before, chosen_now}
 use Rattle.sarif_upkeep.proofs.Taken.{kept_of_fewer, known_fewer}
 use Rattle.sarif_laws.proofs.Lists.{all_append}
 use Rattle.sarif_laws.proofs.OfTool.{IsSoundRun, own_records}
 
-abbrev pub IsChosenSound : Chosen → Type 0
-IsChosenSound run = AllByRecursion (IsOfTool run.tool) run.records
+abbrev pub IsChosenSound : RecordOptions → Chosen → Type 0
+IsChosenSound options run = AllByRecursion (IsOfTool options run.tool) run.records
 
 -- ---- the tools
 
@@ -34,7 +38,7 @@ module _ (P : Record → Type 0) where
   kept_unless true r rs here rest = rest
   kept_unless false r rs here rest = (here, rest)
 
-  known_sound : (file : File) (policy : Policy) (adopt : Bool) (rs : List Record) (states : List State) → AllByRecursion P rs
+  known_sound : (file : File) (policy : Policy) (adopt : Bool) (rs : List Record) (states : List Standing) → AllByRecursion P rs
       → AllByRecursion P (known_of file policy adopt rs states)
   known_sound file policy adopt [] states all = tt
   known_sound file policy adopt (r ∷ rs) [] all = tt
@@ -56,55 +60,62 @@ take_own xs ys n long = ap (λ m. take m (xs ++ ys)) (sym long) ∙ take-append_
 drop_own : (xs ys : List Record) (n : ℕ) → length xs ≡ n → drop n (xs ++ ys) ≡ ys
 drop_own xs ys n long = ap (λ m. drop m (xs ++ ys)) (sym long) ∙ drop-append_seam xs ys
 
-pub now_sound : (file : File) (policy : Policy) (adopt : Bool) (ps : List Placed) (states : List State) → faults_of_runs ps ≡ []
-    → AllByRecursion (λ p. skips p.source ≡ false) ps → AllByRecursion IsSoundRun ps
-    → AllByRecursion IsChosenSound (chosen_now file policy adopt (run_values ps) (records_of ps) states)
-now_sound file policy adopt [] states sound logs all = tt
-now_sound file policy adopt (p ∷ ps) states sound logs all =
+pub now_sound : (options : RecordOptions) (file : File) (policy : Policy) (adopt : Bool) (ps : List Placed) (states : List Standing) → faults_of_runs ps ≡ []
+    → AllByRecursion (λ p. skips p.source ≡ false) ps → AllByRecursion (IsSoundRun options) ps
+    → AllByRecursion (IsChosenSound options) (chosen_now file policy adopt (run_values ps) (records_of ps) states)
+now_sound options file policy adopt [] states sound logs all = tt
+now_sound options file policy adopt (p ∷ ps) states sound logs all =
     let n = length (results_of p.run) in
     let here = records_in (items_of p) in
     let rest = records_of ps in
     let long = records_of_log p logs.0 (no_faults_here (run_faults p) (faults_of_runs ps) sound) in (
-      subst (λ rs. AllByRecursion (IsOfTool (tool_name p.run)) (known_of file policy adopt rs (take n states))) (sym (take_own here rest n long))
-          (known_sound (IsOfTool (tool_name p.run)) file policy adopt here (take n states) (own_records p all.0)),
-      subst (λ rs. AllByRecursion IsChosenSound (chosen_now file policy adopt (run_values ps) rs (drop n states))) (sym (drop_own here rest n long))
-          (now_sound file policy adopt ps (drop n states) (no_faults_left (run_faults p) (faults_of_runs ps) sound) logs.1 all.1),
+      subst (λ rs. AllByRecursion (IsOfTool options (tool_name p.run)) (known_of file policy adopt rs (take n states))) (sym (take_own here rest n long))
+          (known_sound (IsOfTool options (tool_name p.run)) file policy adopt here (take n states) (own_records options p all.0)),
+      subst (λ rs. AllByRecursion (IsChosenSound options) (chosen_now file policy adopt (run_values ps) rs (drop n states))) (sym (drop_own here rest n long))
+          (now_sound options file policy adopt ps (drop n states) (no_faults_left (run_faults p) (faults_of_runs ps) sound) logs.1 all.1),
     )
 
-pub before_sound : (heard : Option (List ℕ) → Bool) (ps : List Placed) (taken : List Bool) → faults_of_runs ps ≡ []
-    → AllByRecursion (λ p. skips p.source ≡ true) ps → AllByRecursion IsSoundRun ps
-    → AllByRecursion IsChosenSound (chosen_before heard (run_values ps) (records_of ps) taken)
-before_sound heard [] taken sound logs all = tt
-before_sound heard (p ∷ ps) taken sound logs all =
+pub before_sound : (options : RecordOptions) (heard : Option (List ℕ) → Bool) (ps : List Placed) (taken : List Bool) → faults_of_runs ps ≡ []
+    → AllByRecursion (λ p. skips p.source ≡ true) ps → AllByRecursion (IsSoundRun options) ps
+    → AllByRecursion (IsChosenSound options) (chosen_before heard (run_values ps) (records_of ps) taken)
+before_sound options heard [] taken sound logs all = tt
+before_sound options heard (p ∷ ps) taken sound logs all =
     let n = length (present (results_of p.run)) in
     let here = records_in (items_of p) in
     let rest = records_of ps in
     let long = records_of_baseline p logs.0 (no_faults_here (run_faults p) (faults_of_runs ps) sound) in (
-      subst (λ rs. AllByRecursion (IsOfTool (tool_name p.run)) (kept_of (heard (Some (tool_name p.run))) rs (take n taken))) (sym (take_own here rest n long))
-          (kept_sound (IsOfTool (tool_name p.run)) (heard (Some (tool_name p.run))) here (take n taken) (own_records p all.0)),
-      subst (λ rs. AllByRecursion IsChosenSound (chosen_before heard (run_values ps) rs (drop n taken))) (sym (drop_own here rest n long))
-          (before_sound heard ps (drop n taken) (no_faults_left (run_faults p) (faults_of_runs ps) sound) logs.1 all.1),
+      subst (λ rs. AllByRecursion (IsOfTool options (tool_name p.run)) (kept_of (heard (Some (tool_name p.run))) rs (take n taken))) (sym (take_own here rest n long))
+          (kept_sound (IsOfTool options (tool_name p.run)) (heard (Some (tool_name p.run))) here (take n taken) (own_records options p all.0)),
+      subst (λ rs. AllByRecursion (IsChosenSound options) (chosen_before heard (run_values ps) rs (drop n taken))) (sym (drop_own here rest n long))
+          (before_sound options heard ps (drop n taken) (no_faults_left (run_faults p) (faults_of_runs ps) sound) logs.1 all.1),
     )
 
 -- ---- tool by tool
 
-of_tool_sound : (runs : List Chosen) (tool : List ℕ) → AllByRecursion IsChosenSound runs → AllByRecursion IsChosenSound (runs_of_tool runs tool)
-of_tool_sound [] tool all = tt
-of_tool_sound (run ∷ runs) tool all =
+of_tool_sound : (options : RecordOptions) (runs : List Chosen) (tool : List ℕ) → AllByRecursion (IsChosenSound options) runs → AllByRecursion (IsChosenSound options) (runs_of_tool runs tool)
+of_tool_sound options [] tool all = tt
+of_tool_sound options (run ∷ runs) tool all =
     elim (bytes_eq run.tool tool && not (is_empty run.records)) as
-    (λ b. AllByRecursion IsChosenSound (if b then run ∷ runs_of_tool runs tool else runs_of_tool runs tool))
-    [ true ↦ (all.0, of_tool_sound runs tool all.1) | false ↦ of_tool_sound runs tool all.1 ]
+    (λ b. AllByRecursion (IsChosenSound options) (if b then run ∷ runs_of_tool runs tool else runs_of_tool runs tool))
+    [ true ↦ (all.0, of_tool_sound options runs tool all.1) | false ↦ of_tool_sound options runs tool all.1 ]
 
-of_tools_sound : (runs : List Chosen) (tools : List (List ℕ)) → AllByRecursion IsChosenSound runs
-    → AllByRecursion IsChosenSound (flat_map (runs_of_tool runs) tools)
-of_tools_sound runs [] all = tt
-of_tools_sound runs (t ∷ ts) all =
-    all_append IsChosenSound (runs_of_tool runs t) (flat_map (runs_of_tool runs) ts) (of_tool_sound runs t all) (of_tools_sound runs ts all)
+of_tools_sound : (options : RecordOptions) (runs : List Chosen) (tools : List (List ℕ)) → AllByRecursion (IsChosenSound options) runs
+    → AllByRecursion (IsChosenSound options) (flat_map (runs_of_tool runs) tools)
+of_tools_sound options runs [] all = tt
+of_tools_sound options runs (t ∷ ts) all =
+    all_append (IsChosenSound options) (runs_of_tool runs t) (flat_map (runs_of_tool runs) ts) (of_tool_sound options runs t all) (of_tools_sound options runs ts all)
 
-pub grouped_sound : (current baseline : List Chosen) → AllByRecursion IsChosenSound current → AllByRecursion IsChosenSound baseline
-    → AllByRecursion IsChosenSound (known_runs current baseline)
-grouped_sound current baseline now before =
-    of_tools_sound (current ++ baseline) (tools_of (baseline ++ current)) (all_append IsChosenSound current baseline now before)
+in_turn_sound : (options : RecordOptions) (version : MatchingVersion) (current baseline : List Chosen) → AllByRecursion (IsChosenSound options) current
+    → AllByRecursion (IsChosenSound options) baseline → AllByRecursion (IsChosenSound options) (in_turn version current baseline)
+in_turn_sound options Two current baseline now before = all_append (IsChosenSound options) current baseline now before
+in_turn_sound options Three current baseline now before = all_append (IsChosenSound options) baseline current before now
+
+pub grouped_sound : (options : RecordOptions) (version : MatchingVersion) (current baseline : List Chosen) → AllByRecursion (IsChosenSound options) current
+    → AllByRecursion (IsChosenSound options) baseline
+    → AllByRecursion (IsChosenSound options) (known_runs version current baseline)
+grouped_sound options version current baseline now before =
+    of_tools_sound options (in_turn version current baseline) (tools_of (baseline ++ current))
+    (in_turn_sound options version current baseline now before)
 
 -- ---- how many
 
@@ -116,7 +127,7 @@ part_few (suc n) (r ∷ rs) = omega (arith, part_few n rs)
 fewer_present : (ds : List Data) → length (present ds) ≤ length ds
 fewer_present ds = few_kept (λ d. not (is_absent_result d)) ds
 
-pub now_few : (file : File) (policy : Policy) (adopt : Bool) (runs : List Data) (rs : List Record) (states : List State)
+pub now_few : (file : File) (policy : Policy) (adopt : Bool) (runs : List Data) (rs : List Record) (states : List Standing)
     → results_among (chosen_now file policy adopt runs rs states) ≤ results_total runs
 now_few file policy adopt [] rs states = omega arith
 now_few file policy adopt (run ∷ runs) rs states =
@@ -137,7 +148,7 @@ before_few heard (run ∷ runs) rs taken =
       before_few heard runs (drop n rs) (drop n taken),
     )
 
-pub now_long : (file : File) (policy : Policy) (adopt : Bool) (runs : List Data) (rs : List Record) (states : List State)
+pub now_long : (file : File) (policy : Policy) (adopt : Bool) (runs : List Data) (rs : List Record) (states : List Standing)
     → length (chosen_now file policy adopt runs rs states) ≡ length runs
 now_long file policy adopt [] rs states = refl
 now_long file policy adopt (run ∷ runs) rs states =

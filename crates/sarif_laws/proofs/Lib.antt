@@ -4,8 +4,10 @@ pub mod Accepted
 pub mod Adopted
 pub mod Arranged
 pub mod ByTool
+pub mod ByVersion
 pub mod Counted
 pub mod FileAfter
+pub mod FromEnd
 pub mod Grouping
 pub mod Keyed
 pub mod KnownRuns

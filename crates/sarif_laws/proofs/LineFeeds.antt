@@ -38,7 +38,7 @@ use Rattle.sarif_upkeep.proofs.NewEntries.{entries_long, values_long}
 use Rattle.sarif_laws.specs.Lines.{lines_in}
 use Rattle.sarif_laws.proofs.FileAfter.{input_file}
 
--- ---- texts in a line
+-- ---- strings in one line
 
 lines-append : (xs ys : List ℕ) → lines_in (xs ++ ys) ≡ lines_in xs + lines_in ys
 lines-append xs ys = sum_by-append (λ b. cond (b == 10) 1 0) xs ys

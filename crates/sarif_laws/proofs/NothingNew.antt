@@ -11,7 +11,7 @@ use Rattle.serde_json.specs.Data.{Data, null, boolean, number, string, array, ob
 use Rattle.serde_json.specs.View.{items_of}
 use Rattle.sarif_model.specs.declared.kinds.State.{State}
 use Rattle.sarif_model.specs.declared.kinds.State.TheVariants.{Absent, Unchanged}
-use Rattle.sarif_model.specs.declared.merge_fault.Source.TheVariants.{Baseline}
+use Rattle.sarif_model.specs.declared.merge_fault.Source.TheVariants.{Baseline, Log}
 use Rattle.sarif_model.specs.declared.record.Record.{Record}
 use Rattle.sarif_model.specs.Members.{elements}
 use Rattle.sarif_model.specs.Run.{result_at, results_of}
@@ -21,7 +21,7 @@ use Rattle.sarif_counts.specs.CountOf.{count_of}
 use Rattle.sarif_counts.specs.Hits.{hits_of}
 use Rattle.sarif_entries.specs.File.{File}
 use Rattle.sarif_findings.specs.Reported.{is_active, level_in, state_in}
-use Rattle.sarif_match.specs.State.{state_of}
+use Rattle.sarif_match.specs.Evidence.{state_in as matched_state}
 use Rattle.sarif_match.proofs.StateLemmas.{equal_is_unchanged}
 use Rattle.sarif_runs.specs.Judging.{run_values}
 use Rattle.sarif_runs.specs.Record.{record_of}
@@ -30,11 +30,14 @@ use Rattle.sarif_results.specs.Drafts.{IsObject, IsRun, Listing}
 use Rattle.sarif_known.specs.Chosen.{Chosen, results_among}
 use Rattle.sarif_known.specs.KnownResult.{known_result}
 use Rattle.sarif_known.specs.KnownRun.{known_run}
+use Rattle.sarif_runs.specs.declared.run_options.RecordOptions.{RecordOptions}
+use Rattle.sarif_runs.specs.Placed.{AreReadWith}
 use Rattle.sarif_known.specs.Laws.{IsOfTool}
+use Rattle.sarif_known.specs.declared.standing.Standing.{Standing}
 use Rattle.sarif_known.specs.Selected.{is_left_out, keep_unless, known_of, unmatched_of}
 use Rattle.sarif_read.specs.Reading.{log_of}
 use Rattle.sarif_inputs.specs.Faults.{faults_of}
-use Rattle.sarif_inputs.specs.Inputs.{Inputs, baseline_runs, baseline_sources, input_runs, log_sources, numbered, placed, placed_from, readable, reads_regions}
+use Rattle.sarif_inputs.specs.Inputs.{Inputs, baseline_runs, baseline_sources, input_runs, log_sources, numbered, placed, placed_from, readable, looks_at_regions, record_options}
 use Rattle.sarif_inputs.proofs.ReadFacts.{baseline_sides, log_sides, read_alike}
 use Rattle.sarif_inputs.proofs.SourceRuns.{data_placed}
 use Rattle.sarif_log.specs.LogBy.{listing_of, taken_of}
@@ -54,8 +57,9 @@ use Rattle.sarif_laws.specs.KnownAgain.{IsKnownAgain}
 use Rattle.sarif_laws.specs.NextMerge.{absent_written}
 use Rattle.sarif_laws.proofs.AbsentKept.{absent_zip}
 use Rattle.sarif_laws.proofs.Accepted.{input_run, no_result}
-use Rattle.sarif_laws.proofs.Adopted.{matched, same_long, unmatched}
+use Rattle.sarif_laws.proofs.Adopted.{own_unchanged, same_long}
 use Rattle.sarif_laws.proofs.ByTool.{IsOfOne, known_of_tool, records_among}
+use Rattle.sarif_laws.proofs.ByVersion.{matched_in, turn, turn_among, unmatched_in}
 use Rattle.sarif_laws.proofs.Counted.{hits_counted, none_fails}
 use Rattle.sarif_laws.proofs.KnownRuns.{before_sound, IsChosenSound, now_sound}
 use Rattle.sarif_laws.proofs.Lists.{same_counts}
@@ -66,7 +70,7 @@ use Rattle.sarif_laws.proofs.SameLogs.{same_current}
 
 -- ---- nothing is left out
 
-whole_list : (file : File) (policy : Policy) (adopt : Bool) (rs : List Record) (states : List State)
+whole_list : (file : File) (policy : Policy) (adopt : Bool) (rs : List Record) (states : List Standing)
     → length rs ≤ length (known_of file policy adopt rs states) → known_of file policy adopt rs states ≡ rs
 whole_list file policy adopt [] states long = refl
 whole_list file policy adopt (r ∷ rs) [] long = absurd (omega (arith, long))
@@ -78,7 +82,7 @@ whole_list file policy adopt (r ∷ rs) (state ∷ states) long = by_test (is_le
     by_test true long rest = absurd (omega (arith, long, known_fewer file policy adopt rs states))
     by_test false long rest = ap (λ l. r ∷ l) (rest (omega (arith, long)))
 
-fewer_chosen : (file : File) (policy : Policy) (adopt : Bool) (runs : List Data) (rs : List Record) (states : List State)
+fewer_chosen : (file : File) (policy : Policy) (adopt : Bool) (runs : List Data) (rs : List Record) (states : List Standing)
     → results_among (chosen_now file policy adopt runs rs states) ≤ length rs
 fewer_chosen file policy adopt [] rs states = omega arith
 fewer_chosen file policy adopt (run ∷ runs) rs states =
@@ -92,7 +96,7 @@ fewer_chosen file policy adopt (run ∷ runs) rs states =
       length-append (take n rs) (drop n rs),
     )
 
-whole_now : (file : File) (policy : Policy) (adopt : Bool) (runs : List Data) (rs : List Record) (states : List State)
+whole_now : (file : File) (policy : Policy) (adopt : Bool) (runs : List Data) (rs : List Record) (states : List Standing)
     → length rs ≤ results_among (chosen_now file policy adopt runs rs states)
     → records_among (chosen_now file policy adopt runs rs states) ≡ rs
 whole_now file policy adopt [] [] states long = refl
@@ -107,13 +111,13 @@ whole_now file policy adopt (run ∷ runs) rs states long =
     (whole_now file policy adopt runs (drop n rs) (drop n states) (omega (arith, long, parts, sum, first, others)))
     ∙ take-append-drop n rs
 
-of_one : (tool : List ℕ) (rs : List Record) → AllByRecursion (IsOfTool tool) rs → AllByRecursion (λ r. r.tool ≡ tool) rs
-of_one tool [] all = tt
-of_one tool (r ∷ rs) all = (all.0.tool_is, of_one tool rs all.1)
+of_one : (options : RecordOptions) (tool : List ℕ) (rs : List Record) → AllByRecursion (IsOfTool options tool) rs → AllByRecursion (λ r. r.tool ≡ tool) rs
+of_one options tool [] all = tt
+of_one options tool (r ∷ rs) all = (all.0.tool_is, of_one options tool rs all.1)
 
-all_of_one : (runs : List Chosen) → AllByRecursion IsChosenSound runs → AllByRecursion IsOfOne runs
-all_of_one [] all = tt
-all_of_one (run ∷ runs) all = (of_one run.tool run.records all.0, all_of_one runs all.1)
+all_of_one : (options : RecordOptions) (runs : List Chosen) → AllByRecursion (IsChosenSound options) runs → AllByRecursion IsOfOne runs
+all_of_one options [] all = tt
+all_of_one options (run ∷ runs) all = (of_one options run.tool run.records all.0, all_of_one options runs all.1)
 
 -- ---- objects
 
@@ -167,29 +171,33 @@ zip_long (r ∷ rs) [] all = absurd all
 zip_long (r ∷ rs) (d ∷ ds) all = ap suc (zip_long rs ds all.1)
 
 module _ (inputs : Inputs) (policy : Policy) (knowing : Knowing) (known : List ℕ) (later : Inputs) (sound : faults_of inputs ≡ [])
-    (whole : (remembered (merge_in inputs policy) knowing).left_out ≡ 0) (again : IsKnownAgain (runs_known (merge_in inputs policy) knowing) known)
+    (whole : (remembered (merge_in inputs policy) knowing).left_out ≡ 0)
+    (again : IsKnownAgain (record_options inputs.checks) (runs_known (merge_in inputs policy) knowing) known)
     (next : IsNextWith inputs known later) where
   abbrev runs : List Chosen
   runs = runs_known (merge_in inputs policy) knowing
 
+  options_same : record_options later.checks ≡ record_options inputs.checks
+  options_same = λ i. record { regions = looks_at_regions (next.matching i); ignored = next.ignored i }
+
   now_own : AllByRecursion IsOfOne (known_now (merge_in inputs policy) (adopts knowing))
   now_own =
       let m = merge_in inputs policy in
-      all_of_one (known_now m (adopts knowing))
-      (now_sound m.file m.policy (adopts knowing) (input_runs inputs) m.states (faultless_runs inputs sound)
-      (log_sides inputs.checks 0 inputs.logs) (sources_sound (log_sources inputs)))
+      all_of_one (record_options inputs.checks) (known_now m (adopts knowing))
+      (now_sound (record_options inputs.checks) m.file m.policy (adopts knowing) (input_runs inputs) m.standings (faultless_runs inputs sound)
+      (log_sides inputs.checks 0 inputs.logs) (sources_sound inputs.checks Log 0 inputs.logs))
 
   before_own : AllByRecursion IsOfOne (known_before (merge_in inputs policy))
   before_own =
       let m = merge_in inputs policy in
-      all_of_one (known_before m)
-      (before_sound (heard m.runs) (baseline_runs inputs) m.taken (faultless_before inputs sound)
-      (baseline_sides inputs.checks 0 inputs.baselines) (sources_sound (baseline_sources inputs)))
+      all_of_one (record_options inputs.checks) (known_before m)
+      (before_sound (record_options inputs.checks) (heard m.runs) (baseline_runs inputs) m.taken (faultless_before inputs sound)
+      (baseline_sides inputs.checks 0 inputs.baselines) (sources_sound inputs.checks Baseline 0 inputs.baselines))
 
   all_now : records_among (known_now (merge_in inputs policy) (adopts knowing)) ≡ current_of later
   all_now =
       let m = merge_in inputs policy in
-      whole_now m.file m.policy (adopts knowing) m.runs m.records m.states (omega (arith, whole)) ∙ same_current inputs later next.logs sound next.faultless
+      whole_now m.file m.policy (adopts knowing) m.runs m.records m.standings (omega (arith, whole)) ∙ same_current inputs later next.logs (sym options_same) sound next.faultless
 
   -- the runs of the known log
   baseline_is : run_values (baseline_runs later) ≡ map known_run runs
@@ -202,20 +210,24 @@ module _ (inputs : Inputs) (policy : Policy) (knowing : Knowing) (known : List �
       ∙ ap readable (again.log allow)
 
   records_are : baseline_of later ≡ records_among runs
-  records_are = (again.again (baseline_runs later) (read_alike later.checks Baseline 0 later.baselines) baseline_is).records
+  records_are = (again.again (baseline_runs later)
+      (subst (λ options. AreReadWith options (baseline_runs later)) options_same (read_alike later.checks Baseline 0 later.baselines)) baseline_is).records
 
-  same_tools : (tool : List ℕ) → of_tool tool (baseline_of later) ≡ of_tool tool (current_of later ++ results_kept inputs policy)
+  same_tools : (tool : List ℕ) → of_tool tool (baseline_of later) ≡ of_tool tool (turn later.checks.matching (current_of later) (results_kept inputs policy))
   same_tools tool =
       let m = merge_in inputs policy in
-      ap (of_tool tool) records_are ∙ known_of_tool tool (known_now m (adopts knowing)) (known_before m) now_own before_own
-      ∙ ap (λ l. of_tool tool (l ++ results_kept inputs policy)) all_now
+      let now = known_now m (adopts knowing) in
+      ap (of_tool tool) records_are ∙ known_of_tool tool m.matching now (known_before m) now_own before_own
+      ∙ ap (of_tool tool) (turn_among m.matching now (known_before m))
+      ∙ ap (λ l. of_tool tool (turn m.matching l (results_kept inputs policy))) all_now
+      ∙ ap (λ v. of_tool tool (turn v (current_of later) (results_kept inputs policy))) (sym next.matching)
 
-  matched_there : (k seq : ℕ) (r : Record) → IsResult later k seq → record_of (reads_regions later.checks) (run_at later k) seq ≡ Ok r
+  matched_there : (k seq : ℕ) (r : Record) → IsResult later k seq → record_of (record_options later.checks) (run_at later k) seq ≡ Ok r
       → partner_at later (number_among_all later k seq) ≡ Some r
   matched_there k seq r there is =
       let place = number_among_all later k seq in
       let at = has_place later k seq r next.faultless there is in
-      matched (current_of later) (results_kept inputs policy) (baseline_of later) same_tools place r
+      matched_in later.checks.matching (current_of later) (results_kept inputs policy) (baseline_of later) same_tools place r
       (slice_get-get_or (current_of later) place r at.in_records ∙ ap Some at.record_is)
 
   unchanged_written : (k seq : ℕ) → IsResult later k seq → state_in (result_at (written_run later k) seq) ≡ Some Unchanged
@@ -226,17 +238,16 @@ module _ (inputs : Inputs) (policy : Policy) (knowing : Knowing) (known : List �
       let in_runs : k < length (run_values (input_runs later)) = omega (arith, there.0, length-map (input_runs later) (λ p. p.run)) in
       let has = get_object (results_of (run_at later k)) seq there.1 (run_objects (run_values (input_runs later)) k in_runs (objects_in (log_sources later))) in
       ap state_in own.2
-      ∙ ap (λ partner. state_in (written (listing_of (file_given later)) r (state_of r partner) d)) (matched_there k seq r there own.1)
-      ∙ ap (λ state. state_in (written (listing_of (file_given later)) r state d))
-      (equal_is_unchanged r r (record { kind = refl; level = refl; message = refl; place = refl }))
+      ∙ ap (λ partner. state_in (written (listing_of (file_given later)) r (matched_state later.checks.matching r partner) d)) (matched_there k seq r there own.1)
+      ∙ ap (λ state. state_in (written (listing_of (file_given later)) r state d)) (own_unchanged later.checks.matching r)
       ∙ state_written (listing_of (file_given later)) r Unchanged d has
 
   others_there : (tool : List ℕ) → of_tool tool (results_unmatched later) ≡ of_tool tool (results_kept inputs policy)
-  others_there = unmatched (current_of later) (results_kept inputs policy) (baseline_of later) same_tools
+  others_there = unmatched_in later.checks.matching (current_of later) (results_kept inputs policy) (baseline_of later) same_tools
 
   absent_there : AllZip IsAbsentOf (results_unmatched later) (flat_map results_of (absent_written later))
   absent_there =
-      let taken = taken_of (current_of later) (baseline_of later) in
+      let taken = taken_of later.checks.matching (current_of later) (baseline_of later) in
       subst (λ bs. AllZip IsAbsentOf (unmatched_of bs taken) (flat_map results_of (absent_runs bs taken (run_values (baseline_runs later))))) (sym records_are)
       (subst (λ vs. AllZip IsAbsentOf (unmatched_of (records_among runs) taken) (flat_map results_of (absent_runs (records_among runs) taken vs)))
       (sym baseline_is) (absent_zip runs taken))

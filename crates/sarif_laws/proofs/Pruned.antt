@@ -140,7 +140,7 @@ module _ (inputs : Inputs) (policy : Policy) (renewal : Renewal) (text : List �
   same_inputs : written_inputs (with_file inputs text) ≡ written_inputs inputs
   same_inputs =
       let rs = current_of inputs in
-      let states = states_of rs (baseline_of inputs) in
+      let states = states_of inputs.checks.matching rs (baseline_of inputs) in
       ap (λ file. merged_runs (listing_of file) rs states (run_values (input_runs inputs))) later_file_is
       ∙ alike_runs (listing_of (later_file inputs policy (undated renewal))) (listing_of (file_given inputs)) rs states (run_values (input_runs inputs))
       (all_placed (IsAlike (listing_of (later_file inputs policy (undated renewal))) (listing_of (file_given inputs))) rs

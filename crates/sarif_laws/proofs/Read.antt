@@ -24,6 +24,7 @@ use Rattle.sarif_runs.specs.Level.{level_of}
 use Rattle.sarif_members.specs.OwnMembers.{own_statuses, parts_of}
 use Rattle.sarif_runs.specs.Place.{place_of}
 use Rattle.sarif_runs.specs.Placed.{Placed}
+use Rattle.sarif_runs.specs.declared.run_options.RecordOptions.{RecordOptions}
 use Rattle.sarif_runs.specs.Record.{record_by, record_in, record_of}
 use Rattle.sarif_results.specs.Annotated.{own_suppressions}
 use Rattle.sarif_accept.specs.Until.{HasGuid}
@@ -58,21 +59,21 @@ pub record IsRead (d : Data) (r : Record) : Type 0 where
   pub guid : HasGuid r
   pub held : own_statuses d ≡ Ok r.held
 
-by_parts : (regions : Bool) (d : Data) (head : RunHead) (tool : List ℕ) (parts : Parts) (r : Record) → AreReadFrom regions d parts
-    → record_by head tool parts ≡ Ok r → IsRead d r
+by_parts : (regions : Bool) (ignored : List (List ℕ)) (d : Data) (head : RunHead) (tool : List ℕ) (parts : Parts) (r : Record) → AreReadFrom regions d parts
+    → record_by ignored head tool parts ≡ Ok r → IsRead d r
 unfolding record_by
-by_parts regions d head tool parts r are is =
+by_parts regions ignored d head tool parts r are is =
     let descriptor = bind_ok (descriptor_of head.components (reference_of parts)) _ r is in
     let level = bind_ok (level_of head parts) _ r descriptor.2 in
     let place = bind_ok (place_of head.artifacts parts) _ r level.2 in
     subst (IsRead d) (ok_is _ r place.2) (record { guid = are.guid; held = are.held })
 
-pub record_read : (regions : Bool) (run : Data) (seq : ℕ) (r : Record) → record_of regions run seq ≡ Ok r → IsRead (result_at run seq) r
+pub record_read : (options : RecordOptions) (run : Data) (seq : ℕ) (r : Record) → record_of options run seq ≡ Ok r → IsRead (result_at run seq) r
 unfolding record_of record_in
-record_read regions run seq r is =
+record_read options run seq r is =
     let head = bind_ok (head_of run) _ r is in
-    let parts = bind_ok (parts_of regions (result_at run seq)) (record_by head.0 (tool_name run)) r head.2 in
-    by_parts regions (result_at run seq) head.0 (tool_name run) parts.0 r (parts_read regions (result_at run seq) parts.0 parts.1) parts.2
+    let parts = bind_ok (parts_of options.regions (result_at run seq)) (record_by options.ignored head.0 (tool_name run)) r head.2 in
+    by_parts options.regions options.ignored (result_at run seq) head.0 (tool_name run) parts.0 r (parts_read options.regions (result_at run seq) parts.0 parts.1) parts.2
 
 -- the statuses are those of the suppressions that are written unchanged
 pub statuses_read : (ms : Members) (r : Record) → IsRead (object ms) r → read_each status_of (elements (own_suppressions ms)) ≡ Ok r.held
@@ -89,16 +90,16 @@ module _ (P : Record → Type 0) where
   with_each false (Err fault) rs here rest = rest
 
   -- what is true for each record that is read from a run
-  pub in_run : (p : Placed) → ((seq : ℕ) (r : Record) → record_of p.options.read_regions p.run seq ≡ Ok r → P r) → (seqs : List ℕ)
+  pub in_run : (p : Placed) → ((seq : ℕ) (r : Record) → record_of p.options.records p.run seq ≡ Ok r → P r) → (seqs : List ℕ)
       → AllByRecursion P (records_in (map (item_of p) seqs))
   in_run p each [] = tt
   in_run p each (seq ∷ seqs) =
-      with_each (skips p.source && is_absent_result (result_at p.run seq)) (record_of p.options.read_regions p.run seq)
+      with_each (skips p.source && is_absent_result (result_at p.run seq)) (record_of p.options.records p.run seq)
       (records_in (map (item_of p) seqs)) (each seq) (in_run p each seqs)
 
 pub guids_fit : (ps : List Placed) → AllByRecursion HasGuid (records_of ps)
 guids_fit [] = tt
 guids_fit (p ∷ ps) =
     all_append HasGuid (records_in (items_of p)) (records_of ps)
-    (in_run HasGuid p (λ seq r is. (record_read p.options.read_regions p.run seq r is).guid) (range_with_len 0 (length (results_of p.run))))
+    (in_run HasGuid p (λ seq r is. (record_read p.options.records p.run seq r is).guid) (range_with_len 0 (length (results_of p.run))))
     (guids_fit ps)

@@ -20,7 +20,7 @@ use Rattle.sarif_read.specs.Reading.{log_of}
 use Rattle.sarif_results.proofs.JudgedCounts.{no_faults_here, no_faults_left}
 use Rattle.sarif_inputs.specs.Faults.{faults_of, file_faults, number_faults}
 use Rattle.sarif_entries.specs.Given.{file_or_none}
-use Rattle.sarif_inputs.specs.Inputs.{Inputs, Sourced, all_runs, all_sources, baseline_runs, baseline_sources, input_runs, log_sources, placed, placed_from, runs_in}
+use Rattle.sarif_inputs.specs.Inputs.{Inputs, Sourced, all_runs, all_sources, baseline_runs, baseline_sources, input_runs, log_sources, placed, placed_from, record_options, runs_in}
 use Rattle.sarif_inputs.specs.SourceFaults.{limit_faults, reading_faults, source_faults}
 use Rattle.sarif_inputs.proofs.ReadFacts.{baseline_sides, log_sides, placed-append}
 use Rattle.sarif_inputs.proofs.SourceRuns.{data_placed}
@@ -99,7 +99,7 @@ faultless_before inputs none =
 -- ---- the known log can be read
 
 module _ (inputs : Inputs) (policy : Policy) (knowing : Knowing) (none : faults_of inputs ≡ []) where
-  can_be_read : CanBeRead (runs_known (merge_in inputs policy) knowing)
+  can_be_read : CanBeRead (record_options inputs.checks) (runs_known (merge_in inputs policy) knowing)
   can_be_read =
       let m = merge_in inputs policy in
       let adopt = adopts knowing in
@@ -111,19 +111,19 @@ module _ (inputs : Inputs) (policy : Policy) (knowing : Knowing) (none : faults_
       let results_split =
       ap (λ ps. results_total (run_values ps)) split ∙ ap results_total (map-append (λ p. p.run) (input_runs inputs) (baseline_runs inputs))
       ∙ total-append (run_values (input_runs inputs)) (run_values (baseline_runs inputs)) in
-      let now_is = now_long m.file m.policy adopt m.runs m.records m.states in
+      let now_is = now_long m.file m.policy adopt m.runs m.records m.standings in
       let before_is = before_long (heard m.runs) m.before m.known m.taken in
-      let now_fits = now_few m.file m.policy adopt m.runs m.records m.states in
+      let now_fits = now_few m.file m.policy adopt m.runs m.records m.standings in
       let before_fits = before_few (heard m.runs) m.before m.known m.taken in
       record {
-        each = grouped_sound now before
-            (now_sound m.file m.policy adopt (input_runs inputs) m.states (faultless_runs inputs none) (log_sides inputs.checks 0 inputs.logs)
-            (sources_sound (log_sources inputs)))
-            (before_sound (heard m.runs) (baseline_runs inputs) m.taken (faultless_before inputs none)
-            (baseline_sides inputs.checks 0 inputs.baselines) (sources_sound (baseline_sources inputs)));
+        each = grouped_sound (record_options inputs.checks) m.matching now before
+            (now_sound (record_options inputs.checks) m.file m.policy adopt (input_runs inputs) m.standings (faultless_runs inputs none) (log_sides inputs.checks 0 inputs.logs)
+            (sources_sound inputs.checks Log 0 inputs.logs))
+            (before_sound (record_options inputs.checks) (heard m.runs) (baseline_runs inputs) m.taken (faultless_before inputs none)
+            (baseline_sides inputs.checks 0 inputs.baselines) (sources_sound inputs.checks Baseline 0 inputs.baselines));
         few_runs = omega (
           arith,
-          known_total (λ _. 1) now before,
+          known_total (λ _. 1) m.matching now before,
           total_runs (runs_known m knowing),
           total_runs now,
           total_runs before,
@@ -136,7 +136,7 @@ module _ (inputs : Inputs) (policy : Policy) (knowing : Knowing) (none : faults_
         );
         few_results = omega (
           arith,
-          known_total (λ run. length run.records) now before,
+          known_total (λ run. length run.records) m.matching now before,
           total_results (runs_known m knowing),
           total_results now,
           total_results before,
@@ -170,16 +170,17 @@ mutual
 
 pub known_read : (inputs : Inputs) (policy : Policy) (knowing : Knowing) → faults_of inputs ≡ []
     → IsUtf8 (known_text (runs_known (merge_in inputs policy) knowing))
-    → IsKnownAgain (runs_known (merge_in inputs policy) knowing) (known_text (runs_known (merge_in inputs policy) knowing))
+    → IsKnownAgain (record_options inputs.checks) (runs_known (merge_in inputs policy) knowing) (known_text (runs_known (merge_in inputs policy) knowing))
 known_read inputs policy knowing none utf8 =
     let runs = runs_known (merge_in inputs policy) knowing in
+    let options = record_options inputs.checks in
     let can = can_be_read inputs policy knowing none in
     let d = known_log runs in
     let same =
     pretty_tokens (tree.json_tokens (outline d))
-    (ArePrintable-json_tokens (outline d) (plain_numbers d (log_plain runs can.each can.few_results))) in
-    let value = text_read runs (pretty_text d) can refl same utf8 in
+    (ArePrintable-json_tokens (outline d) (plain_numbers d (log_plain options runs can.each can.few_results))) in
+    let value = text_read options runs (pretty_text d) can refl same utf8 in
     record {
-      log = λ allow. log_back allow runs (known_text runs) can value;
-      again = λ placed alike are. known_again runs placed alike are can.each can.few_results;
+      log = λ allow. log_back options allow runs (known_text runs) can value;
+      again = λ placed alike are. known_again options runs placed alike are can.each can.few_results;
     }

@@ -3,7 +3,8 @@ use Rattle.std.proofs.Common.{◌≡◌, ℕ, ◌+◌, List, [], ◌∷◌, map,
 use Rattle.std.specs.List.{range_with_len}
 use Rattle.std.proofs.lemmas.List.{length-map}
 use Rattle.sarif_model.specs.declared.record.Record.{Record}
-use Rattle.sarif_match.specs.Partners.{is_taken, partners_of}
+use Rattle.sarif_match.specs.declared.version.MatchingVersion.{MatchingVersion}
+use Rattle.sarif_match.specs.Partners.{is_taken, partners_in}
 use Rattle.sarif_runs.specs.Judging.{run_values}
 use Rattle.sarif_known.specs.Laws.{AreAlike, without_own}
 use Rattle.sarif_known.proofs.SamePartners.{same_partners, same_states}
@@ -14,19 +15,19 @@ use Rattle.sarif_merge.specs.MergedLog.{current_of, file_given}
 use Rattle.sarif_merge.specs.OwnResult.{baseline_of}
 use Rattle.sarif_laws.specs.SameBaseline.{HasSameResults, with_baselines}
 
-module _ (bs others : List Record) (alike : AreAlike bs others) where
-  states_same : (partners : List (Option ℕ)) (n : ℕ) (rs : List Record) → states_from bs partners n rs ≡ states_from others partners n rs
+module _ (v : MatchingVersion) (bs others : List Record) (alike : AreAlike bs others) where
+  states_same : (partners : List (Option ℕ)) (n : ℕ) (rs : List Record) → states_from v bs partners n rs ≡ states_from v others partners n rs
   states_same partners n [] = refl
-  states_same partners n (r ∷ rs) = ap₂ (λ s ss. s ∷ ss) (same_states r bs others (slice_index_or partners n None) alike) (states_same partners (n + 1) rs)
+  states_same partners n (r ∷ rs) = ap₂ (λ s ss. s ∷ ss) (same_states v r bs others (slice_index_or partners n None) alike) (states_same partners (n + 1) rs)
 
-  all_states_same : (cs : List Record) → states_of cs bs ≡ states_of cs others
-  all_states_same cs = ap (λ partners. states_from bs partners 0 cs) (same_partners cs bs others alike) ∙ states_same (partners_of cs others) 0 cs
+  all_states_same : (cs : List Record) → states_of v cs bs ≡ states_of v cs others
+  all_states_same cs = ap (λ partners. states_from v bs partners 0 cs) (same_partners v cs bs others alike) ∙ states_same (partners_in v cs others) 0 cs
 
   as_many : length bs ≡ length others
   as_many = sym (length-map bs without_own) ∙ ap length alike ∙ length-map others without_own
 
-  taken_same : (cs : List Record) → taken_of cs bs ≡ taken_of cs others
-  taken_same cs = ap₂ (λ partners n. map (is_taken partners) (range_with_len 0 n)) (same_partners cs bs others alike) as_many
+  taken_same : (cs : List Record) → taken_of v cs bs ≡ taken_of v cs others
+  taken_same cs = ap₂ (λ partners n. map (is_taken partners) (range_with_len 0 n)) (same_partners v cs bs others alike) as_many
 
 pub same_results : (inputs : Inputs) (baselines : List (List ℕ)) → AreAlike (baseline_of inputs) (baseline_of (with_baselines inputs baselines))
     → HasSameResults inputs (with_baselines inputs baselines)
@@ -36,6 +37,6 @@ same_results inputs baselines alike =
     record {
       written =
           ap (λ states. merged_runs (listing_of (file_given inputs)) (current_of inputs) states (run_values (input_runs inputs)))
-          (sym (all_states_same bs others alike (current_of inputs)));
-      matched = sym (taken_same bs others alike (current_of inputs));
+          (sym (all_states_same inputs.checks.matching bs others alike (current_of inputs)));
+      matched = sym (taken_same inputs.checks.matching bs others alike (current_of inputs));
     }

@@ -1,4 +1,4 @@
--- The same logs have the same records with any checks of their runs.
+-- The same logs have the same records, regardless of what is required of their runs.
 use Rattle.std.proofs.Common.{◌≡◌, ℕ, ◌+◌, Bool, List, [], ◌∷◌, ◌++◌, length, refl, sym, ap, ap₂, subst, ◌∙◌}
 use Rattle.std.specs.Prelude.{Result, Ok, Err}
 use Rattle.std.specs.List.{AllByRecursion}
@@ -18,7 +18,7 @@ use Rattle.sarif_read.proofs.WholeRuns.{bind_ok}
 use Rattle.sarif_runs.specs.Judging.{items_of, records_in, records_of}
 use Rattle.sarif_results.proofs.JudgedCounts.{no_faults_here, no_faults_left}
 use Rattle.sarif_inputs.specs.Faults.{faults_of}
-use Rattle.sarif_inputs.specs.Inputs.{Inputs, Sourced, all_sources, baseline_sources, log_sources, numbered, placed, placed_from, readable, run_options, runs_in}
+use Rattle.sarif_inputs.specs.Inputs.{Inputs, Sourced, all_sources, baseline_sources, log_sources, numbered, placed, placed_from, readable, record_options, runs_in}
 use Rattle.sarif_inputs.specs.SourceFaults.{limit_faults, reading_faults, source_faults}
 use Rattle.sarif_merge.specs.MergedLog.{current_of}
 use Rattle.sarif_laws.proofs.Read.{ok_is}
@@ -72,11 +72,16 @@ one_log a b bytes xs ys first second =
 
 -- ---- with the same records
 
-module _ (c d : Checks) where
+module _ (c d : Checks) (alike : record_options c ≡ record_options d) where
   placed_same : (k n : ℕ) (runs : List Data) → records_of (placed_from c (Log k) n runs) ≡ records_of (placed_from d (Log k) n runs)
   placed_same k n [] = refl
   placed_same k n (run ∷ runs) =
-      ap (λ l. records_in (items_of (record { source = Log k; number = n; options = run_options c (Log k); run = run })) ++ l) (placed_same k (n + 1) runs)
+      (λ i. records_in (items_of (record {
+        source = Log k;
+        number = n;
+        options = record { must_succeed = c.require_success; records = alike i };
+        run = run;
+      })) ++ placed_same k (n + 1) runs i)
 
   same_records : (k : ℕ) (logs : List (List ℕ)) → AllByRecursion IsReadable (numbered c Log k logs)
       → AllByRecursion IsReadable (numbered d Log k logs) → records_of (placed (numbered c Log k logs)) ≡ records_of (placed (numbered d Log k logs))
@@ -93,9 +98,9 @@ module _ (c d : Checks) where
       ∙ sym (flat_map-append (λ p. records_in (items_of p)) (placed_from d (Log k) 0 (readable (log_of d.allow_external bytes)))
       (placed (numbered d Log (k + 1) logs)))
 
-pub same_current : (inputs later : Inputs) → later.logs ≡ inputs.logs → faults_of inputs ≡ [] → faults_of later ≡ [] → current_of inputs ≡ current_of later
-same_current inputs later same first second =
+pub same_current : (inputs later : Inputs) → later.logs ≡ inputs.logs → record_options inputs.checks ≡ record_options later.checks → faults_of inputs ≡ [] → faults_of later ≡ [] → current_of inputs ≡ current_of later
+same_current inputs later same alike first second =
     let one = logs_read inputs first in
     let other = subst (λ logs. AllByRecursion IsReadable (numbered later.checks Log 0 logs)) same (logs_read later second) in
-    same_records inputs.checks later.checks 0 inputs.logs one other
+    same_records inputs.checks later.checks alike 0 inputs.logs one other
     ∙ sym (ap (λ logs. records_of (placed (numbered later.checks Log 0 logs))) same)

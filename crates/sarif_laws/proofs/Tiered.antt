@@ -8,10 +8,10 @@ use Rattle.std.proofs.lemmas.Option.{same_Some}
 use Rattle.std.proofs.lemmas.Slice.Eq.{bytes_eq-Decides}
 use Rattle.sarif_model.specs.declared.record.Record.{Record}
 use Rattle.sarif_match.specs.declared.tier.Tier.{Tier}
-use Rattle.sarif_match.specs.declared.tier.Tier.TheVariants.{Guid, Fingerprint, PartialHere, PartialMoved, Place}
-use Rattle.sarif_match.specs.Key.{is_empty, key_of, value_of}
-use Rattle.sarif_match.specs.KeyParts.{KeyParts, guid_parts, fingerprint_parts, partial_here_parts, place_parts}
-use Rattle.sarif_match.specs.Tiers.{falling_names, has_name, names_of, rising_names, tiers_of}
+use Rattle.sarif_match.specs.declared.tier.Tier.TheVariants.{Guid, FingerprintHere, Fingerprint, PartialHere, PartialMoved, PlaceText, Place, PlaceLeft}
+use Rattle.sarif_match.specs.Key.{group_of, is_empty, key_of, value_of}
+use Rattle.sarif_match.specs.KeyParts.{KeyParts, guid_parts, fingerprint_parts, partial_here_parts, place_left_parts, place_parts}
+use Rattle.sarif_match.specs.Tiers.{falling_names, finer_tiers, has_name, names_of, rising_names, tiers_of}
 use Rattle.sarif_match.proofs.SortedLemmas.{has_names}
 use Rattle.sarif_laws.proofs.Arranged.{itself}
 
@@ -27,7 +27,7 @@ module _ {X : Type 0} (x : X) where
   in_front (y ∷ xs) ys (inl here) = inl here
   in_front (y ∷ xs) ys (inr later) = inr (in_front xs ys later)
 
-  in_back : (xs ys : List X) → IsIn x ys → IsIn x (xs ++ ys)
+  pub in_back : (xs ys : List X) → IsIn x ys → IsIn x (xs ++ ys)
   in_back [] ys among = among
   in_back (y ∷ xs) ys among = inr (in_back xs ys among)
 
@@ -49,7 +49,7 @@ in_names name (own ∷ names) has =
 
 -- ---- the tier of a result
 
-not_empty : (p : List ℕ × List ℕ) (ps : List (List ℕ × List ℕ)) → is_empty (p ∷ ps) ≡ false
+pub not_empty : (p : List ℕ × List ℕ) (ps : List (List ℕ × List ℕ)) → is_empty (p ∷ ps) ≡ false
 not_empty p ps = ne_eqb (length (p ∷ ps)) 0 (λ same. omega (arith, same))
 
 module _ (cs bs : List Record) (r : Record) where
@@ -119,3 +119,31 @@ module _ (cs bs : List Record) (r : Record) where
 
   pub has_tier : (i : ℕ) → slice_get cs i ≡ Some r → HasTier
   has_tier i found = by_guid r.guid i found refl
+
+-- in version 3 too
+module _ (names : List (List ℕ)) (r : Record) where
+  pub record HasFinerTier : Type 0 where
+    pub tier : Tier
+    pub key : KeyParts
+    pub among : IsIn tier (finer_tiers names)
+    pub is : key_of r tier ≡ Some key
+
+  pub has_finer_tier : HasFinerTier
+  has_finer_tier = by_guid r.guid refl
+    where
+      by_guid : (o : Option ℕ) → r.guid ≡ o → HasFinerTier
+      by_guid (Some guid) is = record {
+        tier = Guid;
+        key = guid_parts r.tool guid;
+        among = inl refl;
+        is = ap (option_map (λ g. guid_parts r.tool g)) is;
+      }
+      by_guid None is =
+          let rest : List Tier = PartialMoved ∷ (PlaceText ∷ (Place ∷ (PlaceLeft ∷ []))) in
+          let moved : List Tier = map Fingerprint names ++ rest in record {
+            tier = PlaceLeft;
+            key = place_left_parts (group_of r);
+            among = inr (inr (inr (in_back PlaceLeft (map FingerprintHere names) (PartialHere ∷ moved)
+                (inr (in_back PlaceLeft (map Fingerprint names) rest (inr (inr (inr (inl refl)))))))));
+            is = ap (λ o. cond (is_some o) None (Some (place_left_parts (group_of r)))) is;
+          }

@@ -15,7 +15,7 @@ use Rattle.sarif_runs.specs.Record.{record_of}
 use Rattle.sarif_known.specs.KnownResult.{known_result}
 use Rattle.sarif_known.specs.Selected.{unmatched_of}
 use Rattle.sarif_inputs.specs.Faults.{faults_of}
-use Rattle.sarif_inputs.specs.Inputs.{Inputs, reads_regions}
+use Rattle.sarif_inputs.specs.Inputs.{Inputs, record_options}
 use Rattle.sarif_log.specs.LogBy.{taken_of}
 use Rattle.sarif_log.specs.MergedRuns.{written}
 use Rattle.sarif_merge.specs.Life.{merge_in}
@@ -24,11 +24,13 @@ use Rattle.sarif_merge.specs.OwnResult.{IsResult, baseline_of, number_among_all,
 use Rattle.sarif_upkeep.specs.Known.{known_before, remembered}
 use Rattle.sarif_laws.specs.NextMerge.{absent_written, merged_result}
 
--- an accepted merge of the same logs with this log as the only baseline; its suppression file, its date and its checks
--- may be others
+-- an accepted merge of the same logs with this log as the only baseline, which matches and ignores the same; its
+-- suppression file, its date and what it requires of runs may be others
 pub record IsNextWith (inputs : Inputs) (known : List ℕ) (later : Inputs) : Type 0 where
   pub logs : later.logs ≡ inputs.logs
   pub baseline : later.baselines ≡ known ∷ []
+  pub matching : later.checks.matching ≡ inputs.checks.matching
+  pub ignored : later.checks.ignored ≡ inputs.checks.ignored
   pub faultless : faults_of later ≡ []
 
 -- the text of the known log of these inputs
@@ -42,7 +44,8 @@ results_kept inputs policy = flat_map (λ run. run.records) (known_before (merge
 -- the results of the baselines that no current result matches
 abbrev pub results_unmatched : Inputs → List Record
 results_unmatched inputs =
-    unmatched_of (baseline_of inputs) (taken_of (current_of inputs) (baseline_of inputs))
+    unmatched_of (baseline_of inputs)
+    (taken_of inputs.checks.matching (current_of inputs) (baseline_of inputs))
 
 -- the results of a tool, in order
 abbrev pub of_tool : List ℕ → List Record → List Record
@@ -57,7 +60,7 @@ IsAbsentOf r d =
 pub record HasNothingNew (kept : List Record) (inputs : Inputs) : Type 0 where
   -- the match of each current result has the same record, and so each is unchanged
   pub matched : (k seq : ℕ) (r : Record) → IsResult inputs k seq
-      → record_of (reads_regions inputs.checks) (run_at inputs k) seq ≡ Ok r
+      → record_of (record_options inputs.checks) (run_at inputs k) seq ≡ Ok r
       → partner_at inputs (number_among_all inputs k seq) ≡ Some r
   pub unchanged : (k seq : ℕ) → IsResult inputs k seq
       → state_in (merged_result inputs k seq) ≡ Some Unchanged

@@ -1,16 +1,17 @@
 -- The known log of a merge, as a later merge reads it.
-use Rattle.std.specs.Prelude.{◌≡◌, ℕ, Bool, false, List, map, Ok}
+use Rattle.std.specs.Prelude.{◌≡◌, ℕ, Bool, List, map, Ok}
 use Rattle.sarif_read.specs.Reading.{log_of}
 use Rattle.sarif_runs.specs.Judging.{run_values}
 use Rattle.sarif_runs.specs.Placed.{AreReadWith, Placed}
+use Rattle.sarif_runs.specs.declared.run_options.RecordOptions.{RecordOptions}
 use Rattle.sarif_known.specs.Chosen.{Chosen}
 use Rattle.sarif_known.specs.KnownRun.{known_run}
 use Rattle.sarif_known.specs.Laws.{AreKnownAgain}
 
--- these bytes are read without an error, as the log of these runs; wherever the runs are read, without regions, none has
--- an error, and the records of their results are exactly those of these runs, in order
-pub record IsKnownAgain (runs : List Chosen) (text : List ℕ) : Type 0 where
+-- these bytes are read without an error, as the log of these runs; wherever the runs are read with these options, none
+-- has an error, and the records of their results are exactly those of these runs, in order
+pub record IsKnownAgain (options : RecordOptions) (runs : List Chosen) (text : List ℕ) : Type 0 where
   pub log : (allow : Bool) → log_of allow text ≡ Ok (map known_run runs)
-  pub again : (placed : List Placed) → AreReadWith false placed
+  pub again : (placed : List Placed) → AreReadWith options placed
       → run_values placed ≡ map known_run runs
       → AreKnownAgain runs placed

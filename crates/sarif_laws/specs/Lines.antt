@@ -1,4 +1,4 @@
--- The lines of a text.
+-- The lines of a string.
 use Rattle.std.specs.Prelude.{ℕ, ◌==◌, List, count_by}
 
 -- how many line feeds it has

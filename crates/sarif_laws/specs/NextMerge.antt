@@ -31,4 +31,5 @@ merged_result inputs k seq = result_at (merged_run_at inputs k) seq
 
 -- the runs of the merged log with the absent results
 abbrev pub absent_written : Inputs → List Data
-absent_written inputs = leftover_runs (input_runs inputs) (baseline_runs inputs)
+absent_written inputs =
+    leftover_runs inputs.checks.matching (input_runs inputs) (baseline_runs inputs)

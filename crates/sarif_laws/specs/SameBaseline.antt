@@ -13,5 +13,5 @@ with_baselines inputs baselines = record inputs { baselines = baselines }
 -- results are matched
 pub record HasSameResults (inputs other : Inputs) : Type 0 where
   pub written : written_inputs other ≡ written_inputs inputs
-  pub matched : taken_of (current_of other) (baseline_of other)
-      ≡ taken_of (current_of inputs) (baseline_of inputs)
+  pub matched : taken_of other.checks.matching (current_of other) (baseline_of other)
+      ≡ taken_of inputs.checks.matching (current_of inputs) (baseline_of inputs)

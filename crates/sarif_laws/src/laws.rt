@@ -14,7 +14,7 @@ ghost use Rattle.sarif_upkeep.specs.Known.{remembered, runs_known};
 ghost use Rattle.sarif_upkeep.specs.Life as life;
 ghost use Rattle.sarif_upkeep.specs.Renewed.{renewal_faults, renewed};
 ghost use Rattle.sarif_inputs.specs.Faults.{faults_of};
-ghost use Rattle.sarif_inputs.specs.Inputs.{Inputs};
+ghost use Rattle.sarif_inputs.specs.Inputs.{Inputs, record_options};
 ghost use Rattle.sarif_merge.specs.Life.{merge_in};
 ghost use Rattle.sarif_merge.specs.MergedLog as log;
 ghost use Rattle.sarif_merge.specs.OwnResult.{baseline_of};
@@ -72,7 +72,7 @@ pub fn pruning_changes_no_run()
 pub fn the_known_log_is_read_again()
     ensures { (inputs : Inputs) (policy : Policy) (knowing : Knowing) → faults_of inputs ≡ []
         → IsUtf8 (remembered (merge_in inputs policy) knowing).text
-        → IsKnownAgain (runs_known (merge_in inputs policy) knowing)
+        → IsKnownAgain (record_options inputs.checks) (runs_known (merge_in inputs policy) knowing)
         (remembered (merge_in inputs policy) knowing).text }
 {}
 
@@ -87,7 +87,8 @@ pub fn adopting_leaves_nothing_new()
     ensures bytes { (inputs : Inputs) (policy : Policy) (knowing : Knowing)
         (known : List ℕ) (later : Inputs)
         → faults_of inputs ≡ [] → (remembered (merge_in inputs policy) knowing).left_out ≡ 0
-        → IsKnownAgain (runs_known (merge_in inputs policy) knowing) known
+        → IsKnownAgain (record_options inputs.checks)
+        (runs_known (merge_in inputs policy) knowing) known
         → IsNextWith inputs known later → HasNothingNew (results_kept inputs policy) later }
     ensures text { (inputs : Inputs) (policy : Policy) (knowing : Knowing) (later : Inputs)
         → faults_of inputs ≡ [] → IsUtf8 (text_known inputs policy knowing)

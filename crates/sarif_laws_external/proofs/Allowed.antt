@@ -43,7 +43,7 @@ baseline inputs fileless = baseline_alike inputs (all_read_alike inputs.baseline
 
 pub log_alike : (inputs : Inputs) (policy : Policy) → AreFileless inputs → merged_log (allowing true inputs) policy ≡ merged_log (allowing false inputs) policy
 log_alike inputs policy fileless =
-    λ i. merged_by (file_given inputs) (current inputs fileless i) (baseline inputs fileless i) policy
+    λ i. merged_by inputs.checks.matching (file_given inputs) (current inputs fileless i) (baseline inputs fileless i) policy
 
 pub text_alike : (inputs : Inputs) (policy : Policy) → AreFileless inputs
     → output_text (allowing true inputs) policy ≡ output_text (allowing false inputs) policy
@@ -51,4 +51,4 @@ text_alike inputs policy fileless = ap compact_text (log_alike inputs policy fil
 
 pub later_alike : (inputs : Inputs) (policy : Policy) → AreFileless inputs → merge_in (allowing true inputs) policy ≡ merge_in (allowing false inputs) policy
 later_alike inputs policy fileless =
-    λ i. merge_of (file_given inputs) inputs.suppressions policy (current inputs fileless i) (baseline inputs fileless i)
+    λ i. merge_of inputs.checks.matching (file_given inputs) inputs.suppressions policy (current inputs fileless i) (baseline inputs fileless i)

@@ -18,6 +18,7 @@ use Rattle.sarif_counts.specs.Gate.{gate_of}
 use Rattle.sarif_counts.specs.Hits.{Count}
 use Rattle.sarif_options.specs.declared.policy.Policy.{Policy}
 use Rattle.sarif_read.proofs.Beside.{member_beside}
+use Rattle.sarif_match.specs.declared.version.MatchingVersion.{MatchingVersion}
 use Rattle.sarif_entries.specs.File.{File}
 use Rattle.sarif_suppress.specs.Suppressing.{unused_of}
 use Rattle.sarif_results.specs.Drafts.{Listing}
@@ -99,24 +100,24 @@ absent_same rs taken (run ∷ runs) =
 
 -- ---- the merged log
 
-module _ (file : File) (current baseline : List Placed) where
-  current_same : arrays (current_runs file (all_without current) (all_without baseline)) ≡ arrays (current_runs file current baseline)
+module _ (version : MatchingVersion) (file : File) (current baseline : List Placed) where
+  current_same : arrays (current_runs version file (all_without current) (all_without baseline)) ≡ arrays (current_runs version file current baseline)
   current_same =
       (λ i. arrays
-      (merged_runs (listing_of file) (records_same current i) (states_of (records_same current i) (records_same baseline i))
+      (merged_runs (listing_of file) (records_same current i) (states_of version (records_same current i) (records_same baseline i))
       (values_same current i)))
-      ∙ merged_same (listing_of file) (records_of current) (states_of (records_of current) (records_of baseline)) (run_values current)
+      ∙ merged_same (listing_of file) (records_of current) (states_of version (records_of current) (records_of baseline)) (run_values current)
 
-  left_same : arrays (leftover_runs (all_without current) (all_without baseline)) ≡ arrays (leftover_runs current baseline)
+  left_same : arrays (leftover_runs version (all_without current) (all_without baseline)) ≡ arrays (leftover_runs version current baseline)
   left_same =
-      (λ i. arrays (absent_runs (records_same baseline i) (taken_of (records_same current i) (records_same baseline i)) (values_same baseline i)))
-      ∙ absent_same (records_of baseline) (taken_of (records_of current) (records_of baseline)) (run_values baseline)
+      (λ i. arrays (absent_runs (records_same baseline i) (taken_of version (records_same current i) (records_same baseline i)) (values_same baseline i)))
+      ∙ absent_same (records_of baseline) (taken_of version (records_of current) (records_of baseline)) (run_values baseline)
 
-  pub written_same : arrays (runs_by file (all_without current) (all_without baseline)) ≡ arrays (runs_by file current baseline)
+  pub written_same : arrays (runs_by version file (all_without current) (all_without baseline)) ≡ arrays (runs_by version file current baseline)
   written_same =
-      map-append results_array (current_runs file (all_without current) (all_without baseline)) (leftover_runs (all_without current) (all_without baseline))
+      map-append results_array (current_runs version file (all_without current) (all_without baseline)) (leftover_runs version (all_without current) (all_without baseline))
       ∙ ap₂ (λ first rest. first ++ rest) current_same left_same
-      ∙ sym (map-append results_array (current_runs file current baseline) (leftover_runs current baseline))
+      ∙ sym (map-append results_array (current_runs version file current baseline) (leftover_runs version current baseline))
 
 -- ---- counts
 
@@ -149,10 +150,10 @@ counts_alike xs ys same = λ i state level suppressed.
     ∙ ap (λ found. counted_in found state level suppressed) same
     ∙ sym (counted ys state level suppressed)) i
 
-pub counts_same : (file : File) (current baseline : List Placed)
-    → count_of (runs_by file (all_without current) (all_without baseline)) ≡ count_of (runs_by file current baseline)
-counts_same file current baseline =
-    counts_alike (runs_by file (all_without current) (all_without baseline)) (runs_by file current baseline) (written_same file current baseline)
+pub counts_same : (version : MatchingVersion) (file : File) (current baseline : List Placed)
+    → count_of (runs_by version file (all_without current) (all_without baseline)) ≡ count_of (runs_by version file current baseline)
+counts_same version file current baseline =
+    counts_alike (runs_by version file (all_without current) (all_without baseline)) (runs_by version file current baseline) (written_same version file current baseline)
 
 abbrev has_none : Data → Bool
 has_none run = not (is_some (results_array run))
@@ -166,8 +167,8 @@ lacking_same (run ∷ runs) =
     (lacking_same runs)
     ∙ sym (sum_by-cons (λ x. cond (has_none x) 1 0) run runs)
 
-pub gate_same : (file : File) (current baseline : List Placed) (policy : Policy)
-    → gate_in (merged_by file (all_without current) (all_without baseline) policy) ≡ gate_in (merged_by file current baseline policy)
-gate_same file current baseline policy = λ i.
-    Some (gate_of (counts_same file current baseline i) policy ((ap runs_without_results (values_same current) ∙ lacking_same (run_values current)) i)
+pub gate_same : (version : MatchingVersion) (file : File) (current baseline : List Placed) (policy : Policy)
+    → gate_in (merged_by version file (all_without current) (all_without baseline) policy) ≡ gate_in (merged_by version file current baseline policy)
+gate_same version file current baseline policy = λ i.
+    Some (gate_of (counts_same version file current baseline i) policy ((ap runs_without_results (values_same current) ∙ lacking_same (run_values current)) i)
     (unused_of file (records_same current i)))

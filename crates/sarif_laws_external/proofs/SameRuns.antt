@@ -55,7 +55,7 @@ same_array run =
 item_same : (p : Placed) (seq : ℕ) → item_of (placed_without p) seq ≡ item_of p seq
 item_same p seq = λ i.
     if skips p.source && is_absent_result (slice_index_or (same_results p.run i) seq null) then Skipped
-    else item_by (same_record p.options.read_regions p.run seq i)
+    else item_by (same_record p.options.records p.run seq i)
 
 items_same : (p : Placed) → items_of (placed_without p) ≡ items_of p
 items_same p = λ i. map (λ seq. item_same p seq i) (range_with_len 0 (length (same_results p.run i)))

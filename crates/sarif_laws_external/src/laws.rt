@@ -5,7 +5,8 @@ ghost use Rattle.sarif_model.specs.Run.{results_array};
 ghost use Rattle.sarif_options.specs.declared.policy.Policy.{Policy};
 ghost use Rattle.sarif_counts.specs.CountOf.{count_of};
 ghost use Rattle.sarif_counts.specs.Hits.{verdict_of};
-ghost use Rattle.sarif_match.specs.Partners.{partners_of};
+ghost use Rattle.sarif_match.specs.declared.version.MatchingVersion.{MatchingVersion};
+ghost use Rattle.sarif_match.specs.Partners.{partners_in};
 ghost use Rattle.sarif_entries.specs.File.{File};
 ghost use Rattle.sarif_suppress.specs.Suppressing.{is_suppressed, matching_numbers};
 ghost use Rattle.sarif_read.specs.Reading.{check_external, check_run};
@@ -44,31 +45,35 @@ pub fn external_files_change_no_result()
     ensures faults { (runs : List Placed)
         → faults_of_runs (all_without runs) ≡ faults_of_runs runs }
     ensures records { (runs : List Placed) → records_of (all_without runs) ≡ records_of runs }
-    ensures partners { (current baseline : List Placed)
-        → partners_of (records_of (all_without current)) (records_of (all_without baseline))
-        ≡ partners_of (records_of current) (records_of baseline) }
-    ensures states { (current baseline : List Placed)
-        → states_of (records_of (all_without current)) (records_of (all_without baseline))
-        ≡ states_of (records_of current) (records_of baseline) }
-    ensures taken { (current baseline : List Placed)
-        → taken_of (records_of (all_without current)) (records_of (all_without baseline))
-        ≡ taken_of (records_of current) (records_of baseline) }
+    ensures partners { (version : MatchingVersion) (current baseline : List Placed)
+        → partners_in version (records_of (all_without current)) (records_of (all_without baseline))
+        ≡ partners_in version (records_of current) (records_of baseline) }
+    ensures states { (version : MatchingVersion) (current baseline : List Placed)
+        → states_of version (records_of (all_without current)) (records_of (all_without baseline))
+        ≡ states_of version (records_of current) (records_of baseline) }
+    ensures taken { (version : MatchingVersion) (current baseline : List Placed)
+        → taken_of version (records_of (all_without current)) (records_of (all_without baseline))
+        ≡ taken_of version (records_of current) (records_of baseline) }
     ensures matching { (file : File) (runs : List Placed)
         → map (matching_numbers file) (records_of (all_without runs))
         ≡ map (matching_numbers file) (records_of runs) }
     ensures suppressed { (file : File) (runs : List Placed)
         → map (is_suppressed file) (records_of (all_without runs))
         ≡ map (is_suppressed file) (records_of runs) }
-    ensures results { (file : File) (current baseline : List Placed)
-        → map results_array (runs_by file (all_without current) (all_without baseline))
-        ≡ map results_array (runs_by file current baseline) }
-    ensures counts { (file : File) (current baseline : List Placed)
-        → count_of (runs_by file (all_without current) (all_without baseline))
-        ≡ count_of (runs_by file current baseline) }
-    ensures gate { (file : File) (current baseline : List Placed) (policy : Policy)
-        → gate_in (merged_by file (all_without current) (all_without baseline) policy)
-        ≡ gate_in (merged_by file current baseline policy) }
-    ensures verdict { (file : File) (current baseline : List Placed) (policy : Policy)
-        → verdict_of (count_of (runs_by file (all_without current) (all_without baseline))) policy
-        ≡ verdict_of (count_of (runs_by file current baseline)) policy }
+    ensures results { (version : MatchingVersion) (file : File)
+        (current baseline : List Placed)
+        → map results_array (runs_by version file (all_without current) (all_without baseline))
+        ≡ map results_array (runs_by version file current baseline) }
+    ensures counts { (version : MatchingVersion) (file : File)
+        (current baseline : List Placed)
+        → count_of (runs_by version file (all_without current) (all_without baseline))
+        ≡ count_of (runs_by version file current baseline) }
+    ensures gate { (version : MatchingVersion) (file : File)
+        (current baseline : List Placed) (policy : Policy)
+        → gate_in (merged_by version file (all_without current) (all_without baseline) policy)
+        ≡ gate_in (merged_by version file current baseline policy) }
+    ensures verdict { (version : MatchingVersion) (file : File)
+        (current baseline : List Placed) (policy : Policy)
+        → verdict_of (count_of (runs_by version file (all_without current) (all_without baseline))) policy
+        ≡ verdict_of (count_of (runs_by version file current baseline)) policy }
 {}

@@ -1,5 +1,5 @@
 use Rattle.std.proofs.Common.{ap, map}
-use Rattle.sarif_match.specs.Partners.{partners_of}
+use Rattle.sarif_match.specs.Partners.{partners_in}
 use Rattle.sarif_counts.specs.Hits.{verdict_of}
 use Rattle.sarif_suppress.specs.Suppressing.{is_suppressed, matching_numbers}
 use Rattle.sarif_log.specs.LogBy.{states_of, taken_of}
@@ -20,13 +20,13 @@ pub returns-clause-records : goal.returns-clause-records
 returns-clause-records c = records_same
 
 pub returns-clause-partners : goal.returns-clause-partners
-returns-clause-partners c = λ current baseline i. partners_of (records_same current i) (records_same baseline i)
+returns-clause-partners c = λ version current baseline i. partners_in version (records_same current i) (records_same baseline i)
 
 pub returns-clause-states : goal.returns-clause-states
-returns-clause-states c = λ current baseline i. states_of (records_same current i) (records_same baseline i)
+returns-clause-states c = λ version current baseline i. states_of version (records_same current i) (records_same baseline i)
 
 pub returns-clause-taken : goal.returns-clause-taken
-returns-clause-taken c = λ current baseline i. taken_of (records_same current i) (records_same baseline i)
+returns-clause-taken c = λ version current baseline i. taken_of version (records_same current i) (records_same baseline i)
 
 pub returns-clause-matching : goal.returns-clause-matching
 returns-clause-matching c = λ file runs. ap (map (matching_numbers file)) (records_same runs)
@@ -44,4 +44,4 @@ pub returns-clause-gate : goal.returns-clause-gate
 returns-clause-gate c = gate_same
 
 pub returns-clause-verdict : goal.returns-clause-verdict
-returns-clause-verdict c = λ file current baseline policy. ap (λ counts. verdict_of counts policy) (counts_same file current baseline)
+returns-clause-verdict c = λ version file current baseline policy. ap (λ counts. verdict_of counts policy) (counts_same version file current baseline)
