@@ -58,12 +58,7 @@ fn console_of(rt: &HostRuntime, request: &Request) -> Console<Stdout, Stderr>
 fn one_takes_output(outputs: &[RequestedOutput<Text>]) -> bool
     ensures { result ≡ list_any takes_output outputs.now }
 {
-    for wanted in outputs {
-        if wanted.report.is_for_merges() && wanted.to.as_str() == STANDARD {
-            return true;
-        }
-    }
-    false
+    outputs.iter().any(|wanted| wanted.report.is_for_merges() && wanted.to.as_str() == STANDARD)
 }
 
 /// Returns the outputs of these names, in order.

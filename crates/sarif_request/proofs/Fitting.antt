@@ -71,7 +71,8 @@ module _ (given : GivenOptions) (none : misfit_of given ≡ None) where
 
 -- ---- requests
 
-dated : (rows : List Row) (given : GivenOptions) (today : Option ℕ) (renewal : Option Renewal) → AreGiven rows given → misfit_of given ≡ None → given.today ≡ today
+dated : (rows : List Row) (given : GivenOptions) (today : Option ℕ) (renewal : Option Renewal) → AreGiven rows given
+    → misfit_of given ≡ None → given.today ≡ today
     → IsRenewal rows renewal → IfSome renewal (λ how. IsNotPast today how.until)
 dated rows given today None are none same is = tt
 dated rows given today (Some how) are none same is =
@@ -82,29 +83,35 @@ changing : (rows : List Row) (given : GivenOptions) (renewal : Option Renewal) �
     → IfSome renewal (λ how. (how.accept || how.prune) ≡ true)
 changing rows given None are none is = tt
 changing rows given (Some how) are none is =
-    let so : (given.accept || given.prune) ≡ true = needed_is given.suppress_out (given.accept || given.prune) (changes_and_reason given none).0 (are.suppress_out ∙ is.0) in
+    let so : (given.accept || given.prune) ≡ true =
+    needed_is given.suppress_out (given.accept || given.prune) (changes_and_reason given none).0 (are.suppress_out ∙ is.0) in
     rw (is.1.accept, is.1.prune, sym are.accept, sym are.prune) so
 
-reasoned : (rows : List Row) (given : GivenOptions) (how : Renewal) (reason : Option Text) → AreGiven rows given → misfit_of given ≡ None → how.accept ≡ is_set (codes "accept") rows
+reasoned : (rows : List Row) (given : GivenOptions) (how : Renewal) (reason : Option Text) → AreGiven rows given → misfit_of given ≡ None
+    → how.accept ≡ is_set (codes "accept") rows
     → reason ≡ first_of (codes "reason") rows → IfSome reason (λ _. how.accept ≡ true)
 reasoned rows given how None are none accept is = tt
 reasoned rows given how (Some text) are none accept is =
     accept ∙ sym are.accept ∙ needed_is given.reason given.accept (changes_and_reason given none).1 (are.reason ∙ ap is_some (sym is))
 
-until_given : (rows : List Row) (given : GivenOptions) (how : Renewal) (until : Option ℕ) → AreGiven rows given → misfit_of given ≡ None → how.accept ≡ is_set (codes "accept") rows
+until_given : (rows : List Row) (given : GivenOptions) (how : Renewal) (until : Option ℕ) → AreGiven rows given → misfit_of given ≡ None
+    → how.accept ≡ is_set (codes "accept") rows
     → given.until ≡ until → IfSome until (λ _. how.accept ≡ true)
 until_given rows given how None are none accept is = tt
 until_given rows given how (Some last) are none accept is =
     accept ∙ sym are.accept ∙ needed_is (is_some given.until) given.accept (date given none).0 (ap is_some is)
 
-pub not_past : (words : List (List ℕ)) (request : Request) → GivesRequest words (Ok request) → IfSome request.upkeep.renewal (λ renewal. IsNotPast request.options.today renewal.until)
+pub not_past : (words : List (List ℕ)) (request : Request) → GivesRequest words (Ok request)
+    → IfSome request.upkeep.renewal (λ renewal. IsNotPast request.options.today renewal.until)
 not_past words request (levels, named, sound, asks, (given, are, none), apart) =
     let rows : List Row = matches_of (program levels) words in
     dated rows given request.options.today request.upkeep.renewal are none
     (same_read (one_of (codes "today") rows) given.today request.options.today are.today asks.today) asks.renewal
 
-pub changed : (words : List (List ℕ)) (request : Request) → GivesRequest words (Ok request) → IfSome request.upkeep.renewal (λ renewal. (renewal.accept || renewal.prune) ≡ true)
-changed words request (levels, named, sound, asks, (given, are, none), apart) = changing (matches_of (program levels) words) given request.upkeep.renewal are none asks.renewal
+pub changed : (words : List (List ℕ)) (request : Request) → GivesRequest words (Ok request)
+    → IfSome request.upkeep.renewal (λ renewal. (renewal.accept || renewal.prune) ≡ true)
+changed words request (levels, named, sound, asks, (given, are, none), apart) =
+    changing (matches_of (program levels) words) given request.upkeep.renewal are none asks.renewal
 
 each_reason : (rows : List Row) (given : GivenOptions) (renewal : Option Renewal) → AreGiven rows given → misfit_of given ≡ None → IsRenewal rows renewal
     → IfSome renewal (λ how. IfSome how.reason (λ _. how.accept ≡ true))
@@ -117,8 +124,12 @@ each_date rows given None are none is = tt
 each_date rows given (Some how) are none is =
     until_given rows given how how.until are none is.1.accept (same_read (one_of (codes "until") rows) given.until how.until are.until is.1.until)
 
-pub justified : (words : List (List ℕ)) (request : Request) → GivesRequest words (Ok request) → IfSome request.upkeep.renewal (λ renewal. IfSome renewal.reason (λ _. renewal.accept ≡ true))
-justified words request (levels, named, sound, asks, (given, are, none), apart) = each_reason (matches_of (program levels) words) given request.upkeep.renewal are none asks.renewal
+pub justified : (words : List (List ℕ)) (request : Request) → GivesRequest words (Ok request)
+    → IfSome request.upkeep.renewal (λ renewal. IfSome renewal.reason (λ _. renewal.accept ≡ true))
+justified words request (levels, named, sound, asks, (given, are, none), apart) =
+    each_reason (matches_of (program levels) words) given request.upkeep.renewal are none asks.renewal
 
-pub expiring : (words : List (List ℕ)) (request : Request) → GivesRequest words (Ok request) → IfSome request.upkeep.renewal (λ renewal. IfSome renewal.until (λ _. renewal.accept ≡ true))
-expiring words request (levels, named, sound, asks, (given, are, none), apart) = each_date (matches_of (program levels) words) given request.upkeep.renewal are none asks.renewal
+pub expiring : (words : List (List ℕ)) (request : Request) → GivesRequest words (Ok request)
+    → IfSome request.upkeep.renewal (λ renewal. IfSome renewal.until (λ _. renewal.accept ≡ true))
+expiring words request (levels, named, sound, asks, (given, are, none), apart) =
+    each_date (matches_of (program levels) words) given request.upkeep.renewal are none asks.renewal

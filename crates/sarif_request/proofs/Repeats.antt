@@ -9,7 +9,8 @@ abbrev pub same : Bor Text → Bor Text → Bool
 same x y = bytes_eq x.now y.now
 
 -- what is left from the name before
-pub left_from : (names : List Text) (n : ℕ) (name : Text) → 0 < n → n ≤ length names → name ≡ slice_index_or names (n - 1) name → drop (n - 1) names ≡ name ∷ drop n names
+pub left_from : (names : List Text) (n : ℕ) (name : Text) → 0 < n → n ≤ length names → name ≡ slice_index_or names (n - 1) name
+    → drop (n - 1) names ≡ name ∷ drop n names
 left_from names n name some within is =
     let back : (n - 1) + 1 ≡ n = grind (arith, within, some) in
     let inside : n - 1 < length names = grind (arith, within, some) in
@@ -20,7 +21,8 @@ either true b = refl
 either false b = refl
 
 -- the set has one name more
-pub one_more : {S : Type 0} (old new : HashSet (Bor Text) S) (name : Bor Text) (names before : List Text) → before ≡ name.now ∷ names → Updates same old new name true
+pub one_more : {S : Type 0} (old new : HashSet (Bor Text) S) (name : Bor Text) (names before : List Text) → before ≡ name.now ∷ names
+    → Updates same old new name true
     → ((q : Bor Text) → contains same old q ≡ is_among q.now names) → (q : Bor Text) → contains same new q ≡ is_among q.now before
 one_more old new name names before is updates has = λ q. updates.0 q ∙ rw (has q, is) (either (bytes_eq name.now q.now) (is_among q.now names))
 

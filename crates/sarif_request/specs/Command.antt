@@ -73,6 +73,8 @@ arguments =
     ∷ with_default (codes "error") (argument (codes "fail-on") Level)
     ∷ with_default (codes "new,updated") (argument (codes "states") Once)
     ∷ with_default (codes "0") (argument (codes "max") (Number (pos 0) (pos (2 ^ 32 - 1))))
+    ∷ with_default (codes "2") (argument (codes "matching") (Number (pos 2) (pos 3)))
+    ∷ argument (codes "ignore-fingerprint") Many
     ∷ argument (codes "out") Needed
     ∷ argument (codes "root") Many
     ∷ with_default (codes "all") (argument (codes "show") Once)

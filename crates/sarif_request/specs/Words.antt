@@ -1,11 +1,13 @@
 -- What the arguments of the command line request, and the result if they make no request.
-use Rattle.std.specs.Prelude.{◌≡◌, ◌≢◌, ℕ, Bool, true, false, is_some, List, [], ◌∷◌, flat_map, Option, Some, None, Result, Ok, Err, unwrap_or, option_and_then, codes, bytes_eq, min, max, ◌<◌, ◌^◌, ◌⊎◌, ⊤, if◌then◌else◌}
+use Rattle.std.specs.Prelude.{◌≡◌, ◌≢◌, ◌==◌, ℕ, Bool, true, false, is_some, List, [], ◌∷◌, flat_map, Option, Some, None, Result, Ok, Err, unwrap_or, option_and_then, codes, bytes_eq, min, max, ◌<◌, ◌^◌, ◌⊎◌, ⊤, if◌then◌else◌}
 use Rattle.std.specs.Borrow.{Bor}
 use Rattle.std.specs.Option.{option_map_or}
 use Rattle.std.specs.Str.Parse.{IsNumeral, digits_value, without_leading_plus}
 use Rattle.clap.specs.Words.{App, IsAmong, Row, Text, all_of, first_of, one_of, fault_of, matches_of}
 use Rattle.clap.specs.declared.error.kind.ErrorKind.{ErrorKind}
 use Rattle.clap.specs.declared.error.kind.ErrorKind.TheVariants as kind
+use Rattle.sarif_match.specs.declared.version.MatchingVersion.{MatchingVersion}
+use Rattle.sarif_match.specs.declared.version.MatchingVersion.TheVariants.{Two, Three}
 use Rattle.sarif_model.specs.declared.kinds.Level.{Level}
 use Rattle.sarif_model.specs.Level.{level_named}
 use Rattle.sarif_model.specs.Limits.{most_workers}
@@ -76,6 +78,15 @@ IsReadNumber (Some text) (Some n) = IsWholeNumber text × (n ≡ digits_value 10
 -- that number, otherwise the default
 abbrev pub IsReadOr : ℕ → Option Text → ℕ → Type 0
 IsReadOr default text n = (read : Option ℕ) × IsReadNumber text read × (n ≡ unwrap_or read default)
+
+-- the version of matching with that number: 3, otherwise 2
+abbrev pub version_of : Option ℕ → MatchingVersion
+version_of number = if option_map_or (λ n. n == 3) number false then Three else Two
+
+-- the version with the number that a string represents
+abbrev pub IsVersion : Option Text → MatchingVersion → Type 0
+IsVersion text version =
+    (read : Option ℕ) × IsReadNumber text read × (version ≡ version_of read)
 
 -- a number of workers
 abbrev pub in_range : ℕ → ℕ
@@ -162,6 +173,8 @@ pub record AsksFor (rows : List Row) (request : Request) : Type 0 where
       ≡ is_set (codes "require-success") rows
   pub allow_external : request.options.checks.allow_external
       ≡ is_set (codes "allow-external-properties") rows
+  pub matching : IsVersion (one_of (codes "matching") rows) request.options.checks.matching
+  pub ignored : request.options.checks.ignored ≡ values_of (codes "ignore-fingerprint") rows
   pub workers : (n : ℕ) × IsReadOr 1 (one_of (codes "workers") rows) n
       × (request.options.workers ≡ in_range n)
   pub fail_on : request.options.policy.fail_on ≡ fail_on_in rows

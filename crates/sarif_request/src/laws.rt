@@ -14,7 +14,6 @@ pub fn expiry_dates_are_not_past()
 
 /// If the arguments request a new suppression file, it is changed: results are accepted, entries are dropped, or both.
 /// Only entries that are added have a justification or an expiry date.
-#[tactic(auto, using(crate::proofs::Fitting::changed, crate::proofs::Fitting::justified, crate::proofs::Fitting::expiring))]
 pub fn requested_renewals_are_sound()
     ensures changes { (words : List (List ℕ)) (request : Request) → GivesRequest words (Ok request)
         → IfSome request.upkeep.renewal

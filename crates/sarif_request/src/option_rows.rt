@@ -80,7 +80,7 @@ pub fn is_date(kind: OptionKind) -> bool {
     kind == DATE
 }
 
-static ROWS: [OptionRow; 21] = [
+static ROWS: [OptionRow; 23] = [
     OptionRow {
         id: "log",
         value: "LOG",
@@ -160,6 +160,24 @@ static ROWS: [OptionRow; 21] = [
         group: Group::Gate,
         kind: OptionKind::Number(0, u32::MAX as i64),
         default: Some("0"),
+    },
+    OptionRow {
+        id: "matching",
+        value: "VERSION",
+        help: "How results match the baseline: 2 is by fingerprints or place,\n\
+            3 is by snippets and regions too",
+        group: Group::Gate,
+        kind: OptionKind::Number(2, 3),
+        default: Some("2"),
+    },
+    OptionRow {
+        id: "ignore-fingerprint",
+        value: "NAME",
+        help: "Ignore fingerprints and partial fingerprints with this name, in\n\
+            matching and in suppression entries. May be repeated",
+        group: Group::Inputs,
+        kind: OptionKind::Many,
+        default: None,
     },
     OptionRow {
         id: "out",

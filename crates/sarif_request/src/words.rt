@@ -3,7 +3,7 @@ ghost use Rattle.std.specs.Prelude.{◌≡◌, ◌↔◌, ◌++◌, IfOk, IsTrue
 ghost use Rattle.clap.specs.Words.{kind_of, rows_of, found_of, first_of, one_of};
 ghost use Rattle.sarif_model.specs.Level.{level_named};
 ghost use Rattle.sarif_options.specs.Policy.{default_policy};
-ghost use Rattle.sarif_request.specs.Words.{words_status, ReportsError, IsAsked, AsksFor, GivesRequest, IsReadNumber, IsReadOr, IsUsageOrOutOfMemory};
+ghost use Rattle.sarif_request.specs.Words.{words_status, ReportsError, IsAsked, AsksFor, GivesRequest, IsReadNumber, IsReadOr, IsUsageOrOutOfMemory, IsVersion};
 ghost use Rattle.sarif_request.specs.Words.{fail_on_in, is_set, reports_in, show_in, states_in, values_of};
 ghost use Rattle.sarif_reports.specs.Report.{report_name};
 ghost use Rattle.sarif_request.specs.Words.{AreGiven, IsRenewal, is_given, known_in, wanted_if};
@@ -20,7 +20,8 @@ use crate::wanted::RequestedOutput;
 use clap::ArgMatches;
 use clap::error::ErrorKind;
 use sarif_findings::Show;
-use sarif_model::{Level, MOST_WORKERS, Text};
+use sarif_match::MatchingVersion;
+use sarif_model::{Level, MOST_WORKERS, Sequence, Text};
 use sarif_options::{Checks, Knowing, Options, Policy, Renewal, States, Upkeep};
 use sarif_reports::Report;
 use sarif_streams::STANDARD;
@@ -186,9 +187,10 @@ fn request_of(
     let roots = names_of(alloc, matches, "root")?;
     let upkeep = upkeep_of(alloc, matches)?;
     let today = number_of(matches, "today");
+    let checks = checks_of(alloc, matches)?;
     let options = Options {
         policy: policy_of(matches, states),
-        checks: checks_of(matches),
+        checks,
         today,
         workers: number_of(matches, "workers")
             .unwrap_or(1)
@@ -374,16 +376,52 @@ fn number_of(matches: &ArgMatches<'_>, id: &str) -> Option<u32>
     matches.get_one::<u32>(id)
 }
 
-/// What is required of runs.
-fn checks_of(matches: &ArgMatches<'_>) -> Checks
-    ensures require_success { result.require_success
-        ≡ is_set (codes "require-success") (rows_of (found_of matches.now)) }
-    ensures allow_external { result.allow_external
-        ≡ is_set (codes "allow-external-properties") (rows_of (found_of matches.now)) }
+/// What is required of runs, and what is compared of their results.
+fn checks_of(alloc: Global, matches: &ArgMatches<'_>) -> Result<Checks, AllocError>
+    ensures require_success { IfOk result (λ checks. checks.require_success
+        ≡ is_set (codes "require-success") (rows_of (found_of matches.now))) }
+    ensures allow_external { IfOk result (λ checks. checks.allow_external
+        ≡ is_set (codes "allow-external-properties") (rows_of (found_of matches.now))) }
+    ensures matching { IfOk result (λ checks.
+        IsVersion (one_of (codes "matching") (rows_of (found_of matches.now))) checks.matching) }
+    ensures ignored { IfOk result (λ checks. checks.ignored
+        ≡ values_of (codes "ignore-fingerprint") (rows_of (found_of matches.now))) }
 {
-    Checks {
+    let names = names_of(alloc, matches, "ignore-fingerprint")?;
+    let ignored = sequence_of(alloc, names)?;
+    Ok(Checks {
         require_success: is_set(matches, "require-success"),
         allow_external: is_set(matches, "allow-external-properties"),
+        matching: matching_of(matches),
+        ignored,
+    })
+}
+
+/// These names in order.
+fn sequence_of(alloc: Global, names: Vec<Text>) -> Result<Sequence<Text>, AllocError>
+    ensures { IfOk result (λ sequence. sequence ≡ names.items) }
+{
+    let mut sequence = Sequence::new(alloc);
+    for name in names {
+        sequence.push(name)?;
+    }
+    Ok(sequence)
+}
+
+/// By which version results are matched.
+fn matching_of(matches: &ArgMatches<'_>) -> MatchingVersion
+    ensures { IsVersion (one_of (codes "matching") (rows_of (found_of matches.now))) result }
+{
+    version_of(number_of(matches, "matching"))
+}
+
+/// The version of matching with this number.
+fn version_of(number: Option<u32>) -> MatchingVersion
+    ensures { result ≡ said.version_of number }
+{
+    match number {
+        Some(3) => MatchingVersion::Three,
+        _ => MatchingVersion::Two,
     }
 }
 

@@ -1,5 +1,6 @@
 //! What arguments request.
 use sarif_findings::Show;
+use sarif_match::MatchingVersion;
 use sarif_model::{Level, Text};
 use sarif_options::{Checks, Options, Policy, States};
 use sarif_reports::Report;
@@ -82,7 +83,10 @@ fn check_plain_options(rt: &impl Abort, request: &Request) -> Result<(), Fail> {
     assert_eq!(rt; options.today, None);
     assert_eq!(rt; options.workers, 1);
     assert_eq!(rt; options.policy, Policy::default());
-    assert_eq!(rt; options.checks, Checks::default());
+    assert!(rt; !options.checks.require_success);
+    assert!(rt; !options.checks.allow_external);
+    assert_eq!(rt; options.checks.matching, MatchingVersion::Two);
+    assert!(rt; options.checks.ignored.as_slice().is_empty());
     assert!(rt; request.upkeep.renewal.is_none());
     assert!(rt; !request.upkeep.unused);
     assert_eq!(rt; request.upkeep.known, None);
@@ -164,17 +168,51 @@ fn what_is_required_of_runs_is_read(rt: HostRuntime) -> Result<(), Fail> {
         ),
     ] {
         let request = accepted(&rt, line)?;
-        let wanted = Checks {
+        check_required(
+            &rt,
+            &request.options.checks,
             require_success,
             allow_external,
-        };
-        check_checks(&rt, request.options.checks, wanted)?;
+        )?;
     }
     Ok(())
 }
 
-fn check_checks(rt: &impl Abort, checks: Checks, wanted: Checks) -> Result<(), Fail> {
-    assert_eq!(rt; checks, wanted);
+fn check_required(
+    rt: &impl Abort,
+    checks: &Checks,
+    require_success: bool,
+    allow_external: bool,
+) -> Result<(), Fail> {
+    assert_eq!(rt; checks.require_success, require_success);
+    assert_eq!(rt; checks.allow_external, allow_external);
+    Ok(())
+}
+
+#[test]
+fn the_version_of_matching_is_read(rt: HostRuntime) -> Result<(), Fail> {
+    for (line, version) in [
+        ("a --out o", MatchingVersion::Two),
+        ("a --out o --matching 2", MatchingVersion::Two),
+        ("--matching=3 a --out o", MatchingVersion::Three),
+    ] {
+        let request = accepted(&rt, line)?;
+        assert_eq!(rt; request.options.checks.matching, version);
+    }
+    Ok(())
+}
+
+#[test]
+fn each_ignored_name_is_read(rt: HostRuntime) -> Result<(), Fail> {
+    let line =
+        "--ignore-fingerprint f/v1 a --out o --ignore-fingerprint= --ignore-fingerprint f/v1";
+    let request = accepted(&rt, line)?;
+    assert!(rt;
+        are_named(
+            request.options.checks.ignored.as_slice(),
+            &["f/v1", "", "f/v1"]
+        )
+    );
     Ok(())
 }
 

@@ -16,4 +16,7 @@ loop-report-preserved c =
     let more = take_more all_reports i Suppressions (omega arith) in
     let one = c.in_ok-command.ensures.shape c.report_option.ensures.local
     ∙ ap₂ with_rule c.loop-report.invariant c.report_option.ensures.rule in
-    one ∙ sym (ap (with_reports before) more ∙ fold-append (λ (a : App) (report : Report). with_rule a (option_rule (report_name report))) before (take i all_reports) (get_or all_reports i Suppressions ∷ []))
+    one
+    ∙ sym (ap (with_reports before) more
+    ∙ fold-append (λ (a : App) (report : Report). with_rule a (option_rule (report_name report))) before (take i all_reports)
+    (get_or all_reports i Suppressions ∷ []))

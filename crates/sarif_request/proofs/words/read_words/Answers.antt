@@ -13,7 +13,8 @@ pub returns-in_default : goal.returns-in_default
 returns-in_default c =
     let found = c.in_ok-command.ensures in
     let words = map string_bytes c.args.words.now in
-    let are = matched found.0 (app_of c.in_ok-command.command) words (rows_of (found_of c.in-Ok.matches)) found.2 c.in-Ok.ensures.kinds (λ simple. (c.in-Ok.ensures.matches simple).0) in
+    let are = matched found.0 (app_of c.in_ok-command.command) words (rows_of (found_of c.in-Ok.matches)) found.2 c.in-Ok.ensures.kinds
+    (λ simple. (c.in-Ok.ensures.matches simple).0) in
     let none : states_in (rows_of (found_of c.in-Ok.matches)) ≡ None = search rules in
     stateless found.0 words c.usage_of.result found.1 (are.0, ap states_in (sym are.1) ∙ none) c.usage_of.ensures
 
@@ -21,7 +22,8 @@ pub returns-in_default-named_show : goal.returns-in_default-named_show
 returns-in_default-named_show c =
     let found = c.in_ok-command.ensures in
     let words = map string_bytes c.args.words.now in
-    let are = matched found.0 (app_of c.in_ok-command.command) words (rows_of (found_of c.in-Ok.matches)) found.2 c.in-Ok.ensures.kinds (λ simple. (c.in-Ok.ensures.matches simple).0) in
+    let are = matched found.0 (app_of c.in_ok-command.command) words (rows_of (found_of c.in-Ok.matches)) found.2 c.in-Ok.ensures.kinds
+    (λ simple. (c.in-Ok.ensures.matches simple).0) in
     let none : show_in (rows_of (found_of c.in-Ok.matches)) ≡ None = search rules in
     nameless found.0 words c.usage_of-in_default-named_show.result found.1 (are.0, ap show_in (sym are.1) ∙ none) c.usage_of-in_default-named_show.ensures
 
@@ -29,7 +31,8 @@ pub returns-in-Some-misfit_of : goal.returns-in-Some-misfit_of
 returns-in-Some-misfit_of c =
     let found = c.in_ok-command.ensures in
     let words = map string_bytes c.args.words.now in
-    let are = matched found.0 (app_of c.in_ok-command.command) words (rows_of (found_of c.in-Ok.matches)) found.2 c.in-Ok.ensures.kinds (λ simple. (c.in-Ok.ensures.matches simple).0) in
+    let are = matched found.0 (app_of c.in_ok-command.command) words (rows_of (found_of c.in-Ok.matches)) found.2 c.in-Ok.ensures.kinds
+    (λ simple. (c.in-Ok.ensures.matches simple).0) in
     let given = c.given_of.result in
     let misfit : misfit_of given ≡ Some c.in-Some-misfit_of.misfit = search rules in
     misfitting found.0 words c.usage_of-in-Some-misfit_of.result found.1
@@ -54,10 +57,17 @@ returns-in_default-found c =
     let is = asked found.0 (app_of c.in_ok-command.command) (map string_bytes c.args.words.now) _ request found.2
     c.in-Ok.ensures.kinds (λ simple. (c.in-Ok.ensures.matches simple).0) c.in_ok-request-in-Ok.ensures in
     let none : clash_of (names_of request) ≡ None = search rules in
-    let are = matched found.0 (app_of c.in_ok-command.command) (map string_bytes c.args.words.now) (rows_of (found_of c.in-Ok.matches)) found.2 c.in-Ok.ensures.kinds (λ simple. (c.in-Ok.ensures.matches simple).0) in
+    let are = matched found.0 (app_of c.in_ok-command.command) (map string_bytes c.args.words.now)
+    (rows_of (found_of c.in-Ok.matches)) found.2 c.in-Ok.ensures.kinds (λ simple. (c.in-Ok.ensures.matches simple).0) in
     let given = c.given_of.result in
-    let fits : misfit_of given ≡ None = search rules in
-    (found.0, found.1, is.0, is.1, (given, subst (λ (rows : List Row). AreGiven rows given) are.1 c.given_of.ensures, fits), ap clash_of (sym (same_names _ request is.1)) ∙ none)
+    let fits : misfit_of given ≡ None = search rules in (
+      found.0,
+      found.1,
+      is.0,
+      is.1,
+      (given, subst (λ (rows : List Row). AreGiven rows given) are.1 c.given_of.ensures, fits),
+      ap clash_of (sym (same_names _ request is.1)) ∙ none,
+    )
 
 pub returns-in-Err : goal.returns-in-Err
 returns-in-Err c =

@@ -45,7 +45,7 @@ const OPEN: &str = concat!(
     r#"{"kind":"open","level":"note"},{"kind":"fail","ruleId":""}]}]}"#
 );
 
-/// What is known of it, all of it adopted.
+/// The known log of a merge of `OPEN`, with all of its results adopted.
 const KNOWN: &str = r#"{
   "runs": [
     {
