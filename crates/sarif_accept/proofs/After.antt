@@ -40,10 +40,12 @@ said_matches : (today : Option ℕ) (reason : Option (List ℕ)) (until : Option
     → list_any (is_said r) rs ≡ true → list_any (λ e. matches today e r) (map (λ x. entry_read x reason until) rs) ≡ true
 said_matches today reason until r [] is said = said
 said_matches today reason until r (x ∷ xs) is said =
-    elim (is_said r x) as (λ b. is_said r x ≡ b → (b || list_any (is_said r) xs) ≡ true → (matches today (entry_read x reason until) r || list_any (λ e. matches today e r) (map (λ x. entry_read x reason until) xs)) ≡ true) [
+    elim (is_said r x) as (λ b. is_said r x ≡ b → (b || list_any (is_said r) xs) ≡ true
+    → (matches today (entry_read x reason until) r || list_any (λ e. matches today e r) (map (λ x. entry_read x reason until) xs)) ≡ true) [
       | true ↦ λ same _.
           let conditions : conditions_for x ≡ conditions_for r = (same_conditions-Decides (conditions_for x) (conditions_for r)).0 same in
-          or_left (matches today (entry_read x reason until) r) _ (ap (λ cs. matches today (read_with cs reason until) r) conditions ∙ matches_is r reason today until is)
+          or_left (matches today (entry_read x reason until) r) _
+          (ap (λ cs. matches today (read_with cs reason until) r) conditions ∙ matches_is r reason today until is)
       | false ↦ λ _ more. or_right _ _ (said_matches today reason until r xs is more)
     ] refl said
 
@@ -58,26 +60,36 @@ said_itself r = (same_conditions-Decides (conditions_for r) (conditions_for r)).
 once_said : (before rs : List Record) (r : Record) (i : ℕ) → i < length rs → get_or rs i r ≡ r → list_any (is_said r) (before ++ once_each before rs) ≡ true
 once_said before [] r i within is = absurd (omega arith)
 once_said before (x ∷ xs) r zero within is =
-    elim (list_any (is_said x) before) as (λ b. list_any (is_said x) before ≡ b → list_any (is_said r) (before ++ (if b then once_each before xs else x ∷ once_each (before ++ x ∷ []) xs)) ≡ true) [
+    elim (list_any (is_said x) before) as
+    (λ b. list_any (is_said x) before ≡ b
+    → list_any (is_said r) (before ++ (if b then once_each before xs else x ∷ once_each (before ++ x ∷ []) xs)) ≡ true) [
       | true ↦ λ there. found_before (is_said r) before xs (rw (← is) there)
-      | false ↦ λ _. list_any-append (is_said r) before (x ∷ once_each (before ++ x ∷ []) xs) ∙ or_right (list_any (is_said r) before) _ (or_left (is_said r x) _ (ap (is_said r) is ∙ said_itself r))
+      | false ↦ λ _. list_any-append (is_said r) before (x ∷ once_each (before ++ x ∷ []) xs)
+          ∙ or_right (list_any (is_said r) before) _ (or_left (is_said r x) _ (ap (is_said r) is ∙ said_itself r))
     ] refl
 once_said before (x ∷ xs) r (suc i) within is =
-    elim (list_any (is_said x) before) as (λ b. list_any (is_said x) before ≡ b → list_any (is_said r) (before ++ (if b then once_each before xs else x ∷ once_each (before ++ x ∷ []) xs)) ≡ true) [
+    elim (list_any (is_said x) before) as
+    (λ b. list_any (is_said x) before ≡ b
+    → list_any (is_said r) (before ++ (if b then once_each before xs else x ∷ once_each (before ++ x ∷ []) xs)) ≡ true) [
       | true ↦ λ there. once_said before xs r i (omega arith) is
-      | false ↦ λ _. ap (list_any (is_said r)) (sym (append_assoc before (x ∷ []) (once_each (before ++ x ∷ []) xs))) ∙ once_said (before ++ x ∷ []) xs r i (omega arith) is
+      | false ↦ λ _. ap (list_any (is_said r)) (sym (append_assoc before (x ∷ []) (once_each (before ++ x ∷ []) xs)))
+          ∙ once_said (before ++ x ∷ []) xs r i (omega arith) is
     ] refl
 
 -- a hit that doesn't stay is among those that are accepted
-among_accepted : (counts : MayBeHit) (file : File) (rs : List Record) (states : List State) (r : Record) (state : State) (i : ℕ) → i < length rs → i < length states → get_or rs i r ≡ r → get_or states i state ≡ state
-    → (is_hit counts file r state && not (stays file r)) ≡ true → (j : ℕ) × (j < length (accepted_among counts file rs states)) × (get_or (accepted_among counts file rs states) j r ≡ r)
+among_accepted : (counts : MayBeHit) (file : File) (rs : List Record) (states : List State) (r : Record) (state : State) (i : ℕ)
+    → i < length rs → i < length states → get_or rs i r ≡ r → get_or states i state ≡ state
+    → (is_hit counts file r state && not (stays file r)) ≡ true
+    → (j : ℕ) × (j < length (accepted_among counts file rs states)) × (get_or (accepted_among counts file rs states) j r ≡ r)
 among_accepted counts file [] states r state i within inside is at hit = absurd (omega arith)
 among_accepted counts file (x ∷ xs) [] r state i within inside is at hit = absurd (omega arith)
 among_accepted counts file (x ∷ xs) (s ∷ ss) r state zero within inside is at hit =
     rw (is, at, hit) (0, omega arith, refl)
 among_accepted counts file (x ∷ xs) (s ∷ ss) r state (suc i) within inside is at hit =
     let more = among_accepted counts file xs ss r state i (omega arith) (omega arith) is at hit in
-    elim (is_hit counts file x s && not (stays file x)) as (λ b. let all = if b then x ∷ accepted_among counts file xs ss else accepted_among counts file xs ss in (j : ℕ) × (j < length all) × (get_or all j r ≡ r)) [
+    elim (is_hit counts file x s && not (stays file x)) as
+    (λ b. let all = if b then x ∷ accepted_among counts file xs ss else accepted_among counts file xs ss in (j : ℕ) × (j < length all)
+    × (get_or all j r ≡ r)) [
       | true ↦ (suc more.0, omega (arith, more.1), more.2)
       | false ↦ more
     ]
@@ -90,7 +102,8 @@ keeps_matching : (prune : Bool) (heard : Heard) (file : File) (rs : List Record)
 keeps_matching prune heard file rs r i within is e fits =
     let unexpired = and_parts (not (is_expired file.today e)) (hold e.conditions r) fits in
     let used : list_any (λ x. matches file.today e x) rs ≡ true = list_any_at (λ x. matches file.today e x) rs i r within (rw is fits) in
-    ap (λ b. not (prune && (is_expired file.today e || (not b && heard (text_in kinds.Tool e.conditions))))) used ∙ by_tests prune (is_expired file.today e) unexpired.0
+    ap (λ b. not (prune && (is_expired file.today e || (not b && heard (text_in kinds.Tool e.conditions))))) used
+    ∙ by_tests prune (is_expired file.today e) unexpired.0
   where
     by_tests : (p x : Bool) → not x ≡ true → not (p && (x || false)) ≡ true
     by_tests p true e = absurd (true≢false (sym e))
@@ -101,33 +114,49 @@ filter_kept : (keep test : Entry → Bool) (es : List Entry) → ((e : Entry) �
 filter_kept keep test [] all = refl
 filter_kept keep test (e ∷ es) all =
     let more = filter_kept keep test es all in
-    elim (test e) as (λ t. test e ≡ t → filter test (if keep e then e ∷ filter keep es else filter keep es) ≡ (if t then e ∷ filter test es else filter test es)) [
+    elim (test e) as (λ t. test e ≡ t
+    → filter test (if keep e then e ∷ filter keep es else filter keep es) ≡ (if t then e ∷ filter test es else filter test es)) [
       | true ↦ λ yes. rw (all e yes, yes) (ap (λ l. e ∷ l) more)
-      | false ↦ λ no. elim (keep e) as (λ k. filter test (if k then e ∷ filter keep es else filter keep es) ≡ filter test es) [ true ↦ rw no more | false ↦ more ]
+      | false ↦ λ no. elim (keep e) as
+          (λ k. filter test (if k then e ∷ filter keep es else filter keep es) ≡ filter test es) [ true ↦ rw no more | false ↦ more ]
     ] refl
 
 -- the entries that match a current result are those of before, and then those of the added that do
 matching_after : (how : How) (counts : MayBeHit) (file : File) (rs : List Record) (states : List State) (r : Record) (i : ℕ) → i < length rs → get_or rs i r ≡ r
     → matching (file_after how counts file rs states) r
-    ≡ matching file r ++ filter (λ e. matches file.today e r) (map (λ x. entry_read x how.renewal.reason how.renewal.until) (added_for how counts file rs states))
+    ≡ matching file r ++ filter (λ e. matches file.today e r)
+    (map (λ x. entry_read x how.renewal.reason how.renewal.until) (added_for how counts file rs states))
 matching_after how counts file rs states r i within is =
     let test : Entry → Bool = λ e. matches file.today e r in
     let made = map (λ x. entry_read x how.renewal.reason how.renewal.until) (added_for how counts file rs states) in
     filter-append test (filter (is_kept how.renewal.prune how.heard file rs) file.entries) made
-    ∙ ap (λ l. l ++ filter test made) (filter_kept (is_kept how.renewal.prune how.heard file rs) test file.entries (keeps_matching how.renewal.prune how.heard file rs r i within is))
+    ∙ ap (λ l. l ++ filter test made)
+    (filter_kept (is_kept how.renewal.prune how.heard file rs) test file.entries
+    (keeps_matching how.renewal.prune how.heard file rs r i within is))
 
 -- statuses of entries that are made are accepted
-made_accepted : (test : Entry → Bool) (reason : Option (List ℕ)) (until : Option ℕ) (rs : List Record) → list_all is_accepted (map (λ e. e.status) (filter test (map (λ x. entry_read x reason until) rs))) ≡ true
+made_accepted : (test : Entry → Bool) (reason : Option (List ℕ)) (until : Option ℕ) (rs : List Record)
+    → list_all is_accepted (map (λ e. e.status) (filter test (map (λ x. entry_read x reason until) rs))) ≡ true
 made_accepted test reason until [] = refl
-made_accepted test reason until (x ∷ xs) = elim (test (entry_read x reason until)) as (λ b. list_all is_accepted (map (λ e. e.status) (if b then entry_read x reason until ∷ filter test (map (λ x. entry_read x reason until) xs) else filter test (map (λ x. entry_read x reason until) xs))) ≡ true) [ true ↦ made_accepted test reason until xs | false ↦ made_accepted test reason until xs ]
+made_accepted test reason until (x ∷ xs) =
+    elim (test (entry_read x reason until)) as
+    (λ b. list_all is_accepted
+    (map (λ e. e.status)
+    (if b then entry_read x reason until ∷ filter test (map (λ x. entry_read x reason until) xs) else filter test
+    (map (λ x. entry_read x reason until) xs))) ≡ true)
+    [ true ↦ made_accepted test reason until xs | false ↦ made_accepted test reason until xs ]
 
 none_made : (test : Entry → Bool) (es : List Entry) → is_empty (map (λ e. e.status) (filter test es)) ≡ not (list_any test es)
 none_made test [] = refl
-none_made test (e ∷ es) = elim (test e) as (λ b. is_empty (map (λ e. e.status) (if b then e ∷ filter test es else filter test es)) ≡ not (b || list_any test es)) [ true ↦ refl | false ↦ none_made test es ]
+none_made test (e ∷ es) =
+    elim (test e) as (λ b. is_empty (map (λ e. e.status) (if b then e ∷ filter test es else filter test es)) ≡ not (b || list_any test es))
+    [ true ↦ refl | false ↦ none_made test es ]
 
 -- with more statuses that are all accepted
-with_accepted : (old new : List Status) → list_all is_accepted new ≡ true → statuses_suppress (old ++ new) ≡ (statuses_suppress old || (list_all is_accepted old && not (is_empty new)))
-with_accepted old new all = rw (is_empty-append old new, list_all-append is_accepted old new, all) (by_tests (is_empty old) (list_all is_accepted old) (is_empty new))
+with_accepted : (old new : List Status) → list_all is_accepted new ≡ true
+    → statuses_suppress (old ++ new) ≡ (statuses_suppress old || (list_all is_accepted old && not (is_empty new)))
+with_accepted old new all =
+    rw (is_empty-append old new, list_all-append is_accepted old new, all) (by_tests (is_empty old) (list_all is_accepted old) (is_empty new))
   where
     by_tests : (a b c : Bool) → (not (a && c) && (b && true)) ≡ ((not a && b) || (b && not c))
     by_tests true true true = refl
@@ -138,9 +167,12 @@ with_accepted old new all = rw (is_empty-append old new, list_all-append is_acce
     by_tests false false c = refl
 
 -- a current result is suppressed afterwards where it was, or where all its suppressions are accepted and an added entry matches it
-pub suppressed_after : (how : How) (counts : MayBeHit) (file : File) (rs : List Record) (states : List State) (r : Record) (i : ℕ) → i < length rs → get_or rs i r ≡ r
+pub suppressed_after : (how : How) (counts : MayBeHit) (file : File) (rs : List Record) (states : List State) (r : Record) (i : ℕ)
+    → i < length rs → get_or rs i r ≡ r
     → is_suppressed (file_after how counts file rs states) r
-    ≡ (is_suppressed file r || (not (stays file r) && list_any (λ e. matches file.today e r) (map (λ x. entry_read x how.renewal.reason how.renewal.until) (added_for how counts file rs states))))
+    ≡ (is_suppressed file r
+    || (not (stays file r) && list_any (λ e. matches file.today e r)
+    (map (λ x. entry_read x how.renewal.reason how.renewal.until) (added_for how counts file rs states))))
 suppressed_after how counts file rs states r i within is =
     let test : Entry → Bool = λ e. matches file.today e r in
     let made = map (λ x. entry_read x how.renewal.reason how.renewal.until) (added_for how counts file rs states) in
@@ -149,7 +181,8 @@ suppressed_after how counts file rs states r i within is =
     ap (λ es. r.held ++ map (λ e. e.status) es) (matching_after how counts file rs states r i within is)
     ∙ ap (λ l. r.held ++ l) (map-append (λ e. e.status) (matching file r) (filter test made))
     ∙ sym (append_assoc r.held (map (λ e. e.status) (matching file r)) more) in
-    ap statuses_suppress whole ∙ with_accepted (statuses_of file r) more (made_accepted test how.renewal.reason how.renewal.until (added_for how counts file rs states))
+    ap statuses_suppress whole
+    ∙ with_accepted (statuses_of file r) more (made_accepted test how.renewal.reason how.renewal.until (added_for how counts file rs states))
     ∙ ap (λ b. is_suppressed file r || (list_all is_accepted (statuses_of file r) && not b)) (none_made test made)
     ∙ twice (is_suppressed file r) (list_all is_accepted (statuses_of file r)) (list_any test made)
   where
@@ -162,7 +195,8 @@ suppressed_after how counts file rs states r i within is =
 -- ---- the law of accepting, for one result
 
 -- a current result that is a hit and doesn't stay is matched by an added entry
-added_matches : (how : How) (counts : MayBeHit) (file : File) (rs : List Record) (states : List State) (r : Record) (state : State) (i : ℕ) → i < length rs → i < length states → get_or rs i r ≡ r → get_or states i state ≡ state
+added_matches : (how : How) (counts : MayBeHit) (file : File) (rs : List Record) (states : List State) (r : Record) (state : State) (i : ℕ)
+    → i < length rs → i < length states → get_or rs i r ≡ r → get_or states i state ≡ state
     → how.renewal.accept ≡ true → IsUntil file.today how.renewal.until → (is_hit counts file r state && not (stays file r)) ≡ true
     → list_any (λ e. matches file.today e r) (map (λ x. entry_read x how.renewal.reason how.renewal.until) (added_for how counts file rs states)) ≡ true
 added_matches how counts file rs states r state i within inside is at accepts until hit =
@@ -171,7 +205,8 @@ added_matches how counts file rs states r state i within inside is at accepts un
     (once_said [] (accepted_among counts file rs states) r place.0 place.1 place.2))
 
 -- the hits of afterwards are those of before that stay
-pub hits_after : (how : How) (counts : MayBeHit) (file : File) (rs : List Record) (states : List State) (r : Record) (state : State) (i : ℕ) → i < length rs → i < length states → get_or rs i r ≡ r → get_or states i state ≡ state
+pub hits_after : (how : How) (counts : MayBeHit) (file : File) (rs : List Record) (states : List State) (r : Record) (state : State) (i : ℕ)
+    → i < length rs → i < length states → get_or rs i r ≡ r → get_or states i state ≡ state
     → how.renewal.accept ≡ true → IsUntil file.today how.renewal.until
     → is_hit counts (file_after how counts file rs states) r state ≡ (is_hit counts file r state && stays file r)
 hits_after how counts file rs states r state i within inside is at accepts until =
@@ -186,7 +221,8 @@ hits_after how counts file rs states r state i within inside is at accepts until
     by_tests false b c m so = refl
 
 -- a result that was suppressed is suppressed
-pub still_suppressed : (how : How) (counts : MayBeHit) (file : File) (rs : List Record) (states : List State) (r : Record) (i : ℕ) → i < length rs → get_or rs i r ≡ r
+pub still_suppressed : (how : How) (counts : MayBeHit) (file : File) (rs : List Record) (states : List State) (r : Record) (i : ℕ)
+    → i < length rs → get_or rs i r ≡ r
     → is_suppressed file r ≡ true → is_suppressed (file_after how counts file rs states) r ≡ true
 still_suppressed how counts file rs states r i within is was = suppressed_after how counts file rs states r i within is ∙ or_left (is_suppressed file r) _ was
 
@@ -205,7 +241,8 @@ with_objects-append list [] fs = refl
 with_objects-append list (e ∷ es) fs = with_objects-append (with_object list e) es fs
 
 -- the list of a current result begins with what it was
-pub list_begins : (how : How) (counts : MayBeHit) (file : File) (rs : List Record) (states : List State) (r : Record) (i : ℕ) (own : List Data) → i < length rs → get_or rs i r ≡ r
+pub list_begins : (how : How) (counts : MayBeHit) (file : File) (rs : List Record) (states : List State) (r : Record) (i : ℕ)
+    (own : List Data) → i < length rs → get_or rs i r ≡ r
     → (rest : List Data) × (suppressions_of own (file_after how counts file rs states) r ≡ suppressions_of own file r ++ rest)
 list_begins how counts file rs states r i own within is =
     let more = filter (λ e. matches file.today e r) (map (λ x. entry_read x how.renewal.reason how.renewal.until) (added_for how counts file rs states)) in
@@ -214,7 +251,8 @@ list_begins how counts file rs states r i own within is =
 
 -- ---- pruning
 
-pub same_list : (how : How) (counts : MayBeHit) (file : File) (rs : List Record) (states : List State) (r : Record) (i : ℕ) (own : List Data) → i < length rs → get_or rs i r ≡ r
+pub same_list : (how : How) (counts : MayBeHit) (file : File) (rs : List Record) (states : List State) (r : Record) (i : ℕ)
+    (own : List Data) → i < length rs → get_or rs i r ≡ r
     → how.renewal.accept ≡ false → suppressions_of own (file_after how counts file rs states) r ≡ suppressions_of own file r
 same_list how counts file rs states r i own within is none =
     let nothing : added_for how counts file rs states ≡ [] = rw none refl in
@@ -223,7 +261,8 @@ same_list how counts file rs states r i own within is none =
     ∙ ap (λ l. matching file r ++ filter test (map (λ x. entry_read x how.renewal.reason how.renewal.until) l)) nothing ∙ append-nil (matching file r))
 
 -- an entry that stays unused where the file was pruned isn't expired, and names no tool that was heard
-pub unused_stays : (heard : Heard) (file : File) (rs : List Record) (e : Entry) → is_kept true heard file rs e ≡ true → is_unused file rs e ≡ true → (is_expired file.today e ≡ false) × (heard (text_in kinds.Tool e.conditions) ≡ false)
+pub unused_stays : (heard : Heard) (file : File) (rs : List Record) (e : Entry) → is_kept true heard file rs e ≡ true
+    → is_unused file rs e ≡ true → (is_expired file.today e ≡ false) × (heard (text_in kinds.Tool e.conditions) ≡ false)
 unused_stays heard file rs e kept unused =
     by_tests (is_expired file.today e) (is_unused file rs e) (heard (text_in kinds.Tool e.conditions)) kept unused
   where
@@ -234,7 +273,8 @@ unused_stays heard file rs e kept unused =
     by_tests false false h e f = absurd (true≢false (sym f))
 
 -- the other way: an entry stays if it isn't expired, and matches a result or names a tool that wasn't heard
-pub unexpired_stays : (heard : Heard) (file : File) (rs : List Record) (e : Entry) → is_expired file.today e ≡ false → (is_unused file rs e ≡ false) ⊎ (heard (text_in kinds.Tool e.conditions) ≡ false)
+pub unexpired_stays : (heard : Heard) (file : File) (rs : List Record) (e : Entry) → is_expired file.today e ≡ false
+    → (is_unused file rs e ≡ false) ⊎ (heard (text_in kinds.Tool e.conditions) ≡ false)
     → is_kept true heard file rs e ≡ true
 unexpired_stays heard file rs e valid why =
     by_tests (is_expired file.today e) (is_unused file rs e) (heard (text_in kinds.Tool e.conditions)) valid why

@@ -25,11 +25,13 @@ itself_among : (ps : List (List ℕ × List ℕ)) → are_among ps ps ≡ true
 itself_among [] = refl
 itself_among (p ∷ ps) = and_from _ _ (rw (same_text p.0, same_text p.1) refl) (more_among p ps ps (itself_among ps))
 
-rest_among : (name : List ℕ) (o : Option (List ℕ)) (ps among : List (List ℕ × List ℕ)) → are_among (with_pair name o ps) among ≡ true → are_among ps among ≡ true
+rest_among : (name : List ℕ) (o : Option (List ℕ)) (ps among : List (List ℕ × List ℕ)) → are_among (with_pair name o ps) among ≡ true
+    → are_among ps among ≡ true
 rest_among name None ps among all = all
 rest_among name (Some text) ps among all = (and_parts _ (are_among ps among) all).1
 
-change_among : (name : List ℕ) (o : Option (List ℕ)) (ps qs among : List (List ℕ × List ℕ)) → are_among (with_pair name o ps) among ≡ true → are_among qs among ≡ true → are_among (with_pair name o qs) among ≡ true
+change_among : (name : List ℕ) (o : Option (List ℕ)) (ps qs among : List (List ℕ × List ℕ)) → are_among (with_pair name o ps) among ≡ true
+    → are_among qs among ≡ true → are_among (with_pair name o qs) among ≡ true
 change_among name None ps qs among all new = new
 change_among name (Some text) ps qs among all new = and_from _ _ (and_parts _ (are_among ps among) all).0 new
 
@@ -45,9 +47,12 @@ put_among_on Greater k v l e ms among here is all later = change_among l (as_str
 put_among : (k v : List ℕ) (ms : Members) (among : List (List ℕ × List ℕ)) → list_any (λ x. is_pair x (k, v)) among ≡ true
     → are_among (pairs_of ms) among ≡ true → are_among (pairs_of (put k (string v) ms)) among ≡ true
 put_among k v no_members among here all = and_from _ _ here refl
-put_among k v (member l e ms) among here all = put_among_on (slice_cmp nat_cmp k l) k v l e ms among here refl all (put_among k v ms among here (rest_among l (as_str e) (pairs_of ms) among all))
+put_among k v (member l e ms) among here all =
+    put_among_on (slice_cmp nat_cmp k l) k v l e ms among here refl all
+    (put_among k v ms among here (rest_among l (as_str e) (pairs_of ms) among all))
 
-into_among : (ms : Members) (ps among : List (List ℕ × List ℕ)) → are_among (pairs_of ms) among ≡ true → are_among ps among ≡ true → are_among (pairs_of (texts_into ms ps)) among ≡ true
+into_among : (ms : Members) (ps among : List (List ℕ × List ℕ)) → are_among (pairs_of ms) among ≡ true → are_among ps among ≡ true
+    → are_among (pairs_of (texts_into ms ps)) among ≡ true
 into_among ms [] among before all = before
 into_among ms (p ∷ ps) among before all =
     let both = and_parts (list_any (λ x. is_pair x p) among) (are_among ps among) all in

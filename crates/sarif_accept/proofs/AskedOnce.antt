@@ -19,7 +19,8 @@ either false true = refl
 either false false = refl
 
 -- the conditions of one more entry
-pub one_more : {S : Type 0} (old new : IndexSet (List Condition) S) (a : List Condition) (r : Record) (records : List Record) → a ≡ conditions_for r → Updates same_conditions old new a true
+pub one_more : {S : Type 0} (old new : IndexSet (List Condition) S) (a : List Condition) (r : Record) (records : List Record)
+    → a ≡ conditions_for r → Updates same_conditions old new a true
     → HasAsked old records → HasAsked new (records ++ r ∷ [])
 one_more old new a r records is updates has = λ q.
     let test : Record → Bool = λ x. same_conditions (conditions_for x) q in
@@ -27,7 +28,8 @@ one_more old new a r records is updates has = λ q.
     updates.0 q ∙ rw (here, has q) (either (test r) (list_any test records)) ∙ sym (list_any-append test records (r ∷ []))
 
 -- whether the set has the conditions of an entry says whether one of the records asks the same
-pub said_there : {S : Type 0} (set : IndexSet (List Condition) S) (a : List Condition) (r : Record) (records : List Record) (b : Bool) → a ≡ conditions_for r → HasAsked set records
+pub said_there : {S : Type 0} (set : IndexSet (List Condition) S) (a : List Condition) (r : Record) (records : List Record) (b : Bool)
+    → a ≡ conditions_for r → HasAsked set records
     → contains same_conditions set a ≡ b → list_any (is_said r) records ≡ b
 said_there set a r records b is has there = sym (has (conditions_for r)) ∙ ap (λ q. contains same_conditions set q) (sym is) ∙ there
 
@@ -44,8 +46,10 @@ same_where_new records rest r said = append_assoc records (r ∷ []) (once_each 
 pub long_where_new : (records rest : List Record) (r : Record) → most_entries ≤ length records → list_any (is_said r) records ≡ false
     → most_entries < length (records ++ once_each records (r ∷ rest))
 long_where_new records rest r full said =
-    let whole : length (records ++ once_each records (r ∷ rest)) ≡ length (records ++ r ∷ once_each (records ++ r ∷ []) rest) = ap (λ b. length (with_first records r rest b)) said in
-    let longer : length (records ++ r ∷ once_each (records ++ r ∷ []) rest) ≡ length records + suc (length (once_each (records ++ r ∷ []) rest)) = length-append records (r ∷ once_each (records ++ r ∷ []) rest) in
+    let whole : length (records ++ once_each records (r ∷ rest)) ≡ length (records ++ r ∷ once_each (records ++ r ∷ []) rest) =
+    ap (λ b. length (with_first records r rest b)) said in
+    let longer : length (records ++ r ∷ once_each (records ++ r ∷ []) rest)
+    ≡ length records + suc (length (once_each (records ++ r ∷ []) rest)) = length-append records (r ∷ once_each (records ++ r ∷ []) rest) in
     omega (arith, full, whole, longer)
 
 -- the list gets too long at this result

@@ -84,7 +84,8 @@ asked_made r fits kind = if_made (form_of kind) (is_asked kind r) (own_of kind r
 abbrev pub IsWritten : Form → Type 0
 IsWritten (a_text make) = (text : List ℕ) → (value_of (make text) ≡ string text) × (as_read (make text) ≡ make text)
 IsWritten (a_guid make) = (guid : ℕ) → (value_of (make guid) ≡ string (guid_text guid)) × (as_read (make guid) ≡ make guid)
-IsWritten (some_pairs make) = (pairs : List (List ℕ × List ℕ)) → (value_of (make pairs) ≡ object (texts_put pairs)) × (as_read (make pairs) ≡ make (pairs_of (texts_put pairs)))
+IsWritten (some_pairs make) = (pairs : List (List ℕ × List ℕ))
+    → (value_of (make pairs) ≡ object (texts_put pairs)) × (as_read (make pairs) ≡ make (pairs_of (texts_put pairs)))
 IsWritten (some_texts make) = (texts : List (List ℕ)) → (value_of (make texts) ≡ array (items_of (map string texts))) × (as_read (make texts) ≡ make texts)
 
 pub is_written : (kind : ConditionKind) → IsWritten (form_of kind)
@@ -97,7 +98,8 @@ module _ (r : Record) where
   abbrev Held : Option Condition → Type 0
   Held o = option_map_or (λ c. holds (as_read c) r) o true ≡ true
 
-  text_held : (make : List ℕ → Condition) (found : Option (List ℕ)) → ((text : List ℕ) → holds (as_read (make text)) r ≡ is_text text found) → Held (option_map make found)
+  text_held : (make : List ℕ → Condition) (found : Option (List ℕ)) → ((text : List ℕ) → holds (as_read (make text)) r ≡ is_text text found)
+      → Held (option_map make found)
   text_held make None is = refl
   text_held make (Some text) is = is text ∙ same_text text
 
@@ -105,11 +107,14 @@ module _ (r : Record) where
   guid_held None is = refl
   guid_held (Some guid) is = is guid ∙ (nat-Decides guid guid).1 refl
 
-  pairs_held : (make : List (List ℕ × List ℕ) → Condition) (found : List (List ℕ × List ℕ)) → ((pairs : List (List ℕ × List ℕ)) → holds (as_read (make pairs)) r ≡ are_among (pairs_of (texts_put pairs)) found) → Held (unless_empty make found)
+  pairs_held : (make : List (List ℕ × List ℕ) → Condition) (found : List (List ℕ × List ℕ))
+      → ((pairs : List (List ℕ × List ℕ)) → holds (as_read (make pairs)) r ≡ are_among (pairs_of (texts_put pairs)) found)
+      → Held (unless_empty make found)
   pairs_held make [] is = refl
   pairs_held make (p ∷ ps) is = is (p ∷ ps) ∙ texts_itself (p ∷ ps)
 
-  texts_held : (make : List (List ℕ) → Condition) (found : List (List ℕ)) → ((texts : List (List ℕ)) → holds (as_read (make texts)) r ≡ pointwise bytes_eq texts found) → Held (unless_empty make found)
+  texts_held : (make : List (List ℕ) → Condition) (found : List (List ℕ))
+      → ((texts : List (List ℕ)) → holds (as_read (make texts)) r ≡ pointwise bytes_eq texts found) → Held (unless_empty make found)
   texts_held make [] is = refl
   texts_held make (t ∷ ts) is = is (t ∷ ts) ∙ (key-Decides (t ∷ ts) (t ∷ ts)).1 refl
 

@@ -16,7 +16,8 @@ use Rattle.sarif_accept.specs.Until.{IsUntil}
 use Rattle.sarif_accept.proofs.EachCondition.{asked_held}
 
 module _ (r : Record) where
-  with_held : (o : Option Condition) (cs : List Condition) → option_map_or (λ c. holds (as_read c) r) o true ≡ true → hold (map as_read cs) r ≡ true → hold (map as_read (with_condition o cs)) r ≡ true
+  with_held : (o : Option Condition) (cs : List Condition) → option_map_or (λ c. holds (as_read c) r) o true ≡ true
+      → hold (map as_read cs) r ≡ true → hold (map as_read (with_condition o cs)) r ≡ true
   with_held None cs one all = all
   with_held (Some c) cs one all = and_from _ _ one all
 

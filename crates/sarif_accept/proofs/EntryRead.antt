@@ -31,7 +31,8 @@ use Rattle.sarif_accept.proofs.Rows.{found, get_row, text_back, known_rows}
 
 -- ---- GUIDs
 
-or_guid : (wrong : FileFault) (o : Option ℕ) → IfSome o (λ guid. guid < 2 ^ 128) → ((of_kind wrong as_str (option_and_then unless_null (option_map (λ n. string (guid_text n)) o))) >>= guid_or wrong) ≡ Ok o
+or_guid : (wrong : FileFault) (o : Option ℕ) → IfSome o (λ guid. guid < 2 ^ 128)
+    → ((of_kind wrong as_str (option_and_then unless_null (option_map (λ n. string (guid_text n)) o))) >>= guid_or wrong) ≡ Ok o
 or_guid wrong None fits = refl
 or_guid wrong (Some guid) fits = ap (or_wrong wrong) (guid_back guid fits)
 
@@ -82,7 +83,8 @@ any_full p ps = into_full (put p.0 (string p.1) no_members) ps (put_full p.0 p.1
 abbrev pub pairs_if_any : List (List ℕ × List ℕ) → Option Data
 pairs_if_any ps = option_map (λ qs. object (texts_put qs)) (if_any ps)
 
-pairs_back : (wrong : FileFault) (ps : List (List ℕ × List ℕ)) → pairs_of_member wrong (option_and_then unless_null (pairs_if_any ps)) ≡ Ok (pairs_of (texts_put ps))
+pairs_back : (wrong : FileFault) (ps : List (List ℕ × List ℕ))
+    → pairs_of_member wrong (option_and_then unless_null (pairs_if_any ps)) ≡ Ok (pairs_of (texts_put ps))
 pairs_back wrong [] = refl
 pairs_back wrong (p ∷ ps) = rw (all_texts (p ∷ ps)) refl
 
@@ -92,27 +94,33 @@ texts_each : (wrong : FileFault) (texts : List (List ℕ)) → read_each (text_o
 texts_each wrong [] = refl
 texts_each wrong (t ∷ ts) = rw (texts_each wrong ts) refl
 
-texts_back : (wrong : FileFault) (texts : List (List ℕ)) → (elements_of (of_kind wrong as_array (option_and_then unless_null (list_if_any (map string texts)))) >>= read_each (text_or wrong)) ≡ Ok texts
+texts_back : (wrong : FileFault) (texts : List (List ℕ))
+    → (elements_of (of_kind wrong as_array (option_and_then unless_null (list_if_any (map string texts)))) >>= read_each (text_or wrong))
+    ≡ Ok texts
 texts_back wrong [] = refl
 texts_back wrong (t ∷ ts) = rw (items_back (map string ts)) (texts_each wrong (t ∷ ts))
 
 -- ---- days
 
-day_back : (wrong : FileFault) (o : Option ℕ) → IfSome o (λ last. is_day last ≡ true) → day_of_member wrong (option_and_then unless_null (option_map (λ n. number (unsigned n)) o)) ≡ Ok o
+day_back : (wrong : FileFault) (o : Option ℕ) → IfSome o (λ last. is_day last ≡ true)
+    → day_of_member wrong (option_and_then unless_null (option_map (λ n. number (unsigned n)) o)) ≡ Ok o
 day_back wrong None fits = refl
 day_back wrong (Some last) fits = rw fits refl
 
 -- ---- conditions
 
-value_maps : {A : Type 0} (make : A → Condition) (value : A → Data) (o : Option A) → ((a : A) → value_of (make a) ≡ value a) → option_map value_of (option_map make o) ≡ option_map value o
+value_maps : {A : Type 0} (make : A → Condition) (value : A → Data) (o : Option A) → ((a : A) → value_of (make a) ≡ value a)
+    → option_map value_of (option_map make o) ≡ option_map value o
 value_maps make value None is = refl
 value_maps make value (Some a) is = ap Some (is a)
 
-read_maps : {A : Type 0} (make : A → Condition) (o : Option A) → ((a : A) → as_read (make a) ≡ make a) → option_map make o ≡ option_map as_read (option_map make o)
+read_maps : {A : Type 0} (make : A → Condition) (o : Option A) → ((a : A) → as_read (make a) ≡ make a)
+    → option_map make o ≡ option_map as_read (option_map make o)
 read_maps make None is = refl
 read_maps make (Some a) is = ap Some (sym (is a))
 
-pairs_again : (make : List (List ℕ × List ℕ) → Condition) (ps : List (List ℕ × List ℕ)) → ((qs : List (List ℕ × List ℕ)) → as_read (make qs) ≡ make (pairs_of (texts_put qs)))
+pairs_again : (make : List (List ℕ × List ℕ) → Condition) (ps : List (List ℕ × List ℕ))
+    → ((qs : List (List ℕ × List ℕ)) → as_read (make qs) ≡ make (pairs_of (texts_put qs)))
     → unless_empty make (pairs_of (texts_put ps)) ≡ option_map as_read (unless_empty make ps)
 pairs_again make [] is = refl
 pairs_again make (p ∷ ps) is = ap (option_map make) (any_full p ps) ∙ ap Some (sym (is (p ∷ ps)))
@@ -122,35 +130,45 @@ list_any_value [] = refl
 list_any_value (t ∷ ts) = refl
 
 -- a condition that was made from a value of its form is read again
-form_back : (wrong : FileFault) (form : Form) (name : List ℕ) (d : Data) (o : Option Condition) → IsWritten form → IsMade form o → get name d ≡ option_map value_of o
+form_back : (wrong : FileFault) (form : Form) (name : List ℕ) (d : Data) (o : Option Condition) → IsWritten form → IsMade form o
+    → get name d ≡ option_map value_of o
     → read_as form wrong name d ≡ Ok (option_map as_read o)
 form_back wrong (a_text make) name d o writes (text, is) at =
     let value : get name d ≡ option_map string text = at ∙ ap (option_map value_of) is ∙ value_maps make string text (λ t. (writes t).0) in
     let read : text_at wrong name d ≡ Ok text = ap (λ o. of_kind wrong as_str (option_and_then unless_null o)) value ∙ text_back wrong text in
     ap (result_map (option_map make)) read ∙ ap Ok (read_maps make text (λ t. (writes t).1) ∙ ap (option_map as_read) (sym is))
 form_back wrong (a_guid make) name d o writes (guid, is, fits) at =
-    let value : get name d ≡ option_map (λ n. string (guid_text n)) guid = at ∙ ap (option_map value_of) is ∙ value_maps make (λ n. string (guid_text n)) guid (λ n. (writes n).0) in
-    let read : guid_at wrong name d ≡ Ok guid = ap (λ o. of_kind wrong as_str (option_and_then unless_null o) >>= guid_or wrong) value ∙ or_guid wrong guid fits in
+    let value : get name d ≡ option_map (λ n. string (guid_text n)) guid = at ∙ ap (option_map value_of) is
+    ∙ value_maps make (λ n. string (guid_text n)) guid (λ n. (writes n).0) in
+    let read : guid_at wrong name d ≡ Ok guid = ap (λ o. of_kind wrong as_str (option_and_then unless_null o) >>= guid_or wrong) value
+    ∙ or_guid wrong guid fits in
     ap (result_map (option_map make)) read ∙ ap Ok (read_maps make guid (λ n. (writes n).1) ∙ ap (option_map as_read) (sym is))
 form_back wrong (some_pairs make) name d o writes (pairs, is) at =
-    let value : get name d ≡ pairs_if_any pairs = at ∙ ap (option_map value_of) is ∙ value_maps make (λ qs. object (texts_put qs)) (if_any pairs) (λ qs. (writes qs).0) in
-    let read : pairs_at wrong name d ≡ Ok (pairs_of (texts_put pairs)) = ap (λ o. pairs_of_member wrong (option_and_then unless_null o)) value ∙ pairs_back wrong pairs in
+    let value : get name d ≡ pairs_if_any pairs = at ∙ ap (option_map value_of) is
+    ∙ value_maps make (λ qs. object (texts_put qs)) (if_any pairs) (λ qs. (writes qs).0) in
+    let read : pairs_at wrong name d ≡ Ok (pairs_of (texts_put pairs)) =
+    ap (λ o. pairs_of_member wrong (option_and_then unless_null o)) value ∙ pairs_back wrong pairs in
     ap (result_map (unless_empty make)) read ∙ ap Ok (pairs_again make pairs (λ qs. (writes qs).1) ∙ ap (option_map as_read) (sym is))
 form_back wrong (some_texts make) name d o writes (texts, is) at =
-    let value : get name d ≡ list_if_any (map string texts) = at ∙ ap (option_map value_of) is ∙ value_maps make (λ ts. array (items_of (map string ts))) (if_any texts) (λ ts. (writes ts).0) ∙ list_any_value texts in
-    let read : texts_at wrong name d ≡ Ok texts = ap (λ o. elements_of (of_kind wrong as_array (option_and_then unless_null o)) >>= read_each (text_or wrong)) value ∙ texts_back wrong texts in
+    let value : get name d ≡ list_if_any (map string texts) = at ∙ ap (option_map value_of) is
+    ∙ value_maps make (λ ts. array (items_of (map string ts))) (if_any texts) (λ ts. (writes ts).0) ∙ list_any_value texts in
+    let read : texts_at wrong name d ≡ Ok texts =
+    ap (λ o. elements_of (of_kind wrong as_array (option_and_then unless_null o)) >>= read_each (text_or wrong)) value
+    ∙ texts_back wrong texts in
     ap (result_map (unless_empty make)) read ∙ ap Ok (read_maps make (if_any texts) (λ ts. (writes ts).1) ∙ ap (option_map as_read) (sym is))
 
 with_read : (o : Option Condition) (cs : List Condition) → with_condition (option_map as_read o) (map as_read cs) ≡ map as_read (with_condition o cs)
 with_read None cs = refl
 with_read (Some c) cs = refl
 
-from_kinds : (wrong : FileFault) (d : Data) (f : ConditionKind → Option Condition) → ((kind : ConditionKind) → condition_at wrong d kind ≡ Ok (option_map as_read (f kind)))
+from_kinds : (wrong : FileFault) (d : Data) (f : ConditionKind → Option Condition)
+    → ((kind : ConditionKind) → condition_at wrong d kind ≡ Ok (option_map as_read (f kind)))
     → (ks : List ConditionKind) → conditions_from wrong d ks ≡ Ok (map as_read (named_by f ks))
 from_kinds wrong d f each [] = refl
 from_kinds wrong d f each (kind ∷ ks) = rw (each kind, from_kinds wrong d f each ks) (ap Ok (with_read (f kind) (named_by f ks)))
 
-module _ (f : ConditionKind → Option Condition) (made : (kind : ConditionKind) → IsMade (form_of kind) (f kind)) (reason : Option (List ℕ)) (until : Option ℕ) (wrong : FileFault) where
+module _ (f : ConditionKind → Option Condition) (made : (kind : ConditionKind) → IsMade (form_of kind) (f kind)) (reason : Option (List ℕ))
+    (until : Option ℕ) (wrong : FileFault) where
   abbrev d : Data
   d = object (members_from (entry_rows f reason until))
 
@@ -170,7 +188,9 @@ module _ (f : ConditionKind → Option Condition) (made : (kind : ConditionKind)
   conditions_is : conditions_of wrong d ≡ Ok (map as_read (named_by f all_kinds))
   unfolding conditions_of
   conditions_is =
-      from_kinds wrong d f (λ kind. form_back wrong (form_of kind) (name_of kind) d (f kind) (is_written kind) (made kind) (at (name_of kind) ∙ found_is kind)) all_kinds
+      from_kinds wrong d f
+      (λ kind. form_back wrong (form_of kind) (name_of kind) d (f kind) (is_written kind) (made kind)
+      (at (name_of kind) ∙ found_is kind)) all_kinds
 
   members_is : IfSome until (λ last. is_day last ≡ true)
       → members_of wrong d ≡ Ok (record { conditions = map as_read (named_by f all_kinds); expires = until; status = Accepted; justification = reason })
@@ -195,6 +215,7 @@ unfolding entry_of
 entry_is r reason today until n fits is =
     let f : ConditionKind → Option Condition = asked_of r in
     let wrong : FileFault = in_entry n BadEntry in
-    let known : check_members Fourth wrong (entry_for r reason until) ≡ Ok tt = ap (λ b. unless_fault b wrong) (known_rows Fourth (entry_rows f reason until) refl) in
+    let known : check_members Fourth wrong (entry_for r reason until) ≡ Ok tt =
+    ap (λ b. unless_fault b wrong) (known_rows Fourth (entry_rows f reason until) refl) in
     let read = members_is f (asked_made r fits) reason until wrong (a_day today until is) in
     rw (known, read, today_known today until is) refl

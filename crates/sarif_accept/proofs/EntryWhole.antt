@@ -75,7 +75,8 @@ module _ (wrong : FileFault) where
   members_stay (member k (array ds) ms) all = absurd (true≢false (sym all))
   members_stay (member k (object ns) ms) all = absurd (true≢false (sym all))
 
-  passed : (b : Bool) (ps : List (List ℕ × List ℕ)) (x : List (List ℕ × List ℕ)) → ◌≡◌ {A = Result (List (List ℕ × List ℕ)) FileFault} (if b then Ok ps else Err wrong) (Ok x) → b ≡ true
+  passed : (b : Bool) (ps : List (List ℕ × List ℕ)) (x : List (List ℕ × List ℕ))
+      → ◌≡◌ {A = Result (List (List ℕ × List ℕ)) FileFault} (if b then Ok ps else Err wrong) (Ok x) → b ≡ true
   passed true ps x is = refl
   passed false ps x is = let never : ⊥ = cc in absurd never
 
@@ -113,7 +114,8 @@ module _ (wrong : FileFault) where
       rest (Ok ys) x xs is = (ys, refl)
       rest (Err e) x xs is = let never : ⊥ = cc in absurd never
 
-  list_stays : (o : Option Data) (x : List (List ℕ)) → (elements_of (of_kind wrong as_array (option_and_then unless_null o)) >>= read_each (text_or wrong)) ≡ Ok x → Stays o
+  list_stays : (o : Option Data) (x : List (List ℕ))
+      → (elements_of (of_kind wrong as_array (option_and_then unless_null o)) >>= read_each (text_or wrong)) ≡ Ok x → Stays o
   list_stays None x is = refl
   list_stays (Some null) x is = refl
   list_stays (Some (boolean b)) x is = refl
@@ -176,7 +178,8 @@ all_stay wrong d e is =
 -- ---- any other name
 
 -- a name that isn't known isn't found
-unknown_on : (o : Ordering) (q l : List ℕ) (e : Data) (found : Option Data) → slice_cmp nat_cmp q l ≡ o → has_member Fourth l ≡ true → has_member Fourth q ≡ false → found ≡ None
+unknown_on : (o : Ordering) (q l : List ℕ) (e : Data) (found : Option Data) → slice_cmp nat_cmp q l ≡ o → has_member Fourth l ≡ true
+    → has_member Fourth q ≡ false → found ≡ None
     → match_ordering o found (Some e) found ≡ None
 unknown_on Less q l e found is known unknown none = none
 unknown_on Equal q l e found is known unknown none =
@@ -209,7 +212,8 @@ module _ (ms : Members) (stay : MembersStay (object ms)) (q : List ℕ) where
   either true b is f g = f refl
   either false b is f g = g is
 
-  condition_stays : (kinds : List ConditionKind) → ConditionsStay (object ms) kinds → list_any (λ kind. bytes_eq q (name_of kind) && includes Fourth (since kind)) kinds ≡ true → StaysHere
+  condition_stays : (kinds : List ConditionKind) → ConditionsStay (object ms) kinds
+      → list_any (λ kind. bytes_eq q (name_of kind) && includes Fourth (since kind)) kinds ≡ true → StaysHere
   condition_stays [] all is = absurd (true≢false (sym is))
   condition_stays (kind ∷ kinds) all is =
       either (bytes_eq q (name_of kind) && includes Fourth (since kind)) _ is
@@ -242,7 +246,8 @@ checked_members version wrong ms is = by_test (are_members_of version ms) is
     by_test true is = refl
     by_test false is = let never : ⊥ = cc in absurd never
 
-object_whole : (version : Version) (wrong : FileFault) (d : Data) (e : Entry) → IsOrdered d → check_members version wrong d ≡ Ok tt → members_of wrong d ≡ Ok e → entry_in d ≡ d
+object_whole : (version : Version) (wrong : FileFault) (d : Data) (e : Entry) → IsOrdered d → check_members version wrong d ≡ Ok tt
+    → members_of wrong d ≡ Ok e → entry_in d ≡ d
 object_whole version wrong null e ordered checked read = let never : ⊥ = cc in absurd never
 object_whole version wrong (boolean b) e ordered checked read = let never : ⊥ = cc in absurd never
 object_whole version wrong (number n) e ordered checked read = let never : ⊥ = cc in absurd never
@@ -261,7 +266,8 @@ entry_whole version today n d e ordered is =
     object_whole version wrong d s2.value ordered s1.first s2.first
 
 -- nor of the entries of a file that is read
-pub entries_whole : (version : Version) (today : Option ℕ) (n : ℕ) (ds : List Data) (es : List Entry) → AllByRecursion IsOrdered ds → entries_from version today n ds ≡ Ok es
+pub entries_whole : (version : Version) (today : Option ℕ) (n : ℕ) (ds : List Data) (es : List Entry) → AllByRecursion IsOrdered ds
+    → entries_from version today n ds ≡ Ok es
     → map entry_in ds ≡ ds
 entries_whole version today n [] es ordered is = refl
 entries_whole version today n (d ∷ ds) es ordered is =

@@ -28,27 +28,38 @@ use Rattle.sarif_accept.proofs.Kept.{kept_read, read_behind, made_read}
 apart : codes "version" ≡ codes "suppressions" → ⊥
 apart same = true≢false (sym ((bytes_eq-Decides (codes "version") (codes "suppressions")).1 same))
 
-value_read : (today : Option ℕ) (entries : List Data) (ms : Members) (es : List Entry) → length entries ≤ most_entries → entries_from Fourth today 0 entries ≡ Ok es
+value_read : (today : Option ℕ) (entries : List Data) (ms : Members) (es : List Entry) → length entries ≤ most_entries
+    → entries_from Fourth today 0 entries ≡ Ok es
     → file_of_value today (file_with entries ms) ≡ Ok (record { entries = es; today = today })
 unfolding file_of_value
 value_read today entries ms es few read =
     let four = put (codes "version") (number (unsigned 4)) ms in
-    let list : get_member (codes "suppressions") (put (codes "suppressions") (array (items_of entries)) four) ≡ Some (array (items_of entries)) = get_member-put (codes "suppressions") (array (items_of entries)) four in
+    let list : get_member (codes "suppressions") (put (codes "suppressions") (array (items_of entries)) four)
+    ≡ Some (array (items_of entries)) = get_member-put (codes "suppressions") (array (items_of entries)) four in
     let version : get_member (codes "version") (put (codes "suppressions") (array (items_of entries)) four) ≡ Some (number (unsigned 4)) =
-    get_member-put_other (codes "version") (codes "suppressions") (array (items_of entries)) four apart ∙ get_member-put (codes "version") (number (unsigned 4)) ms in
+    get_member-put_other (codes "version") (codes "suppressions") (array (items_of entries)) four apart
+    ∙ get_member-put (codes "version") (number (unsigned 4)) ms in
     let count : nat_le (length entries) most_entries ≡ true = grind (arith, nat_tests) in
     rw (list, version, items_back entries, count, read) refl
 
 -- the new file of one that was read, on the same day
-pub file_read : (how : How) (counts : MayBeHit) (file : File) (rs : List Record) (states : List State) (version : Version) (values : List Data) (ms : Members) (text : List ℕ)
+pub file_read : (how : How) (counts : MayBeHit) (file : File) (rs : List Record) (states : List State) (version : Version)
+    (values : List Data) (ms : Members) (text : List ℕ)
     → entries_from version file.today 0 values ≡ Ok file.entries
     → AllByRecursion HasGuid (added_for how counts file rs states) → IsDated file.today how.renewal.until
-    → length (chosen (map (is_kept how.renewal.prune how.heard file rs) file.entries) values ++ map (λ r. entry_for r how.renewal.reason how.renewal.until) (added_for how counts file rs states)) ≤ most_entries
-    → json_of (without_mark text) ≡ Some (file_with (chosen (map (is_kept how.renewal.prune how.heard file rs) file.entries) values ++ map (λ r. entry_for r how.renewal.reason how.renewal.until) (added_for how counts file rs states)) ms)
+    → length (chosen (map (is_kept how.renewal.prune how.heard file rs) file.entries) values
+    ++ map (λ r. entry_for r how.renewal.reason how.renewal.until) (added_for how counts file rs states)) ≤ most_entries
+    → json_of (without_mark text)
+    ≡ Some
+    (file_with (chosen (map (is_kept how.renewal.prune how.heard file rs) file.entries) values
+    ++ map (λ r. entry_for r how.renewal.reason how.renewal.until) (added_for how counts file rs states)) ms)
     → file_of text file.today ≡ Ok (file_after how counts file rs states)
 unfolding file_of
 file_read how counts file rs states version values ms text read fits until few is =
-    rw is (value_read file.today (chosen (map (is_kept how.renewal.prune how.heard file rs) file.entries) values ++ map (λ r. entry_for r how.renewal.reason how.renewal.until) (added_for how counts file rs states)) ms (file_after how counts file rs states).entries few
+    rw is
+    (value_read file.today (chosen (map (is_kept how.renewal.prune how.heard file rs) file.entries) values
+    ++ map (λ r. entry_for r how.renewal.reason how.renewal.until) (added_for how counts file rs states)) ms
+    (file_after how counts file rs states).entries few
     (read_behind file.today 0 _ _ _ _ (kept_read version file.today (is_kept how.renewal.prune how.heard file rs) 0 0 values file.entries read)
     (λ m. made_read (added_for how counts file rs states) how.renewal.reason file.today how.renewal.until m fits until)))
 
@@ -56,4 +67,5 @@ file_read how counts file rs states version values ms text read fits until few i
 pub alone_read : (r : Record) (reason : Option (List ℕ)) (today until : Option ℕ) (ms : Members) → HasGuid r → IsDated today until
     → file_of_value today (file_with (entry_for r reason until ∷ []) ms) ≡ Ok (record { entries = entry_read r reason until ∷ []; today = today })
 alone_read r reason today until ms fits dated =
-    value_read today (entry_for r reason until ∷ []) ms (entry_read r reason until ∷ []) (omega arith) (made_read (r ∷ []) reason today until 0 (fits, tt) dated)
+    value_read today (entry_for r reason until ∷ []) ms (entry_read r reason until ∷ []) (omega arith)
+    (made_read (r ∷ []) reason today until 0 (fits, tt) dated)

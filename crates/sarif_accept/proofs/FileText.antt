@@ -40,6 +40,7 @@ pub text_reads : (b : List ℕ) (ms : Members) → b ≡ pretty (tokens b) → I
 text_reads b ms layout order utf8 reads =
     let begins = begins_brace order.0 ms order.2 in
     let whole : b ≡ 123 ∷ begins.0 = layout ∙ ap pretty order.1 ∙ begins.1 in
-    let bare : without_mark (b ++ 10 ∷ []) ≡ b ++ 10 ∷ [] = ap (λ l. without_mark (l ++ 10 ∷ [])) whole ∙ without_brace (begins.0 ++ 10 ∷ []) ∙ sym (ap (λ l. l ++ 10 ∷ []) whole) in
+    let bare : without_mark (b ++ 10 ∷ []) ≡ b ++ 10 ∷ [] = ap (λ l. without_mark (l ++ 10 ∷ [])) whole
+    ∙ without_brace (begins.0 ++ 10 ∷ []) ∙ sym (ap (λ l. l ++ 10 ∷ []) whole) in
     let valid : is_utf8 (b ++ 10 ∷ []) ≡ true = is_utf8-from_IsUtf8 (b ++ 10 ∷ []) (IsUtf8-append b (10 ∷ []) utf8 (IsUtf8-are_ascii (10 ∷ []) refl)) in
     ap json_of bare ∙ rw valid (read_line b ∙ reads)

@@ -22,12 +22,15 @@ left_of xs n x within is = drop_more xs n x within ∙ ap (λ y. y ∷ drop (n +
 
 -- ---- flags
 
-pub flags_go_on : (today : Option ℕ) (marks : List Bool) (prune : Bool) (heard : Heard) (entries : List Entry) (front : List Bool) (n : ℕ) (e : Entry) (used : Bool)
+pub flags_go_on : (today : Option ℕ) (marks : List Bool) (prune : Bool) (heard : Heard) (entries : List Entry) (front : List Bool) (n : ℕ)
+    (e : Entry) (used : Bool)
     → n < length entries → e ≡ slice_index_or entries n e → used ≡ mark_at marks n
     → (front ++ not (prune && is_dropped heard today e used) ∷ []) ++ flags_by today marks prune heard (n + 1) (drop (n + 1) entries)
     ≡ front ++ flags_by today marks prune heard n (drop n entries)
 flags_go_on today marks prune heard entries front n e used within is mark =
-    rw (left_of entries n e within is, mark) (append_assoc front (not (prune && is_dropped heard today e (mark_at marks n)) ∷ []) (flags_by today marks prune heard (n + 1) (drop (n + 1) entries)))
+    rw (left_of entries n e within is, mark)
+    (append_assoc front (not (prune && is_dropped heard today e (mark_at marks n)) ∷ [])
+    (flags_by today marks prune heard (n + 1) (drop (n + 1) entries)))
 
 pub flags_end : (today : Option ℕ) (marks : List Bool) (prune : Bool) (heard : Heard) (entries : List Entry) (front : List Bool) (n : ℕ) → length entries ≤ n
     → front ++ flags_by today marks prune heard n (drop n entries) ≡ front
@@ -44,7 +47,8 @@ next_front : (front : List Entry) (e : Entry) → length front + 1 ≡ length (f
 next_front front e = sym (length-append front (e ∷ []))
 
 flags_behind : (prune : Bool) (heard : Heard) (file : File) (rs : List Record) (front es : List Entry)
-    → flags_by file.today (map (λ e. list_any (λ r. matches file.today e r) rs) (front ++ es)) prune heard (length front) es ≡ map (is_kept prune heard file rs) es
+    → flags_by file.today (map (λ e. list_any (λ r. matches file.today e r) rs) (front ++ es)) prune heard (length front) es
+    ≡ map (is_kept prune heard file rs) es
 flags_behind prune heard file rs front [] = refl
 flags_behind prune heard file rs front (e ∷ es) =
     let g : Entry → Bool = λ e. list_any (λ r. matches file.today e r) rs in
@@ -72,7 +76,8 @@ lines_behind file rs front (e ∷ es) (d ∷ ds) =
     let here : mark_at (map g (front ++ e ∷ es)) (length front) ≡ g e = mark_here g front e es in
     let more = lines_behind file rs (front ++ e ∷ []) es ds in
     let whole : (front ++ e ∷ []) ++ es ≡ front ++ e ∷ es = append_assoc front (e ∷ []) es in
-    rw (here, next_front front e, either (g e) (line_of (length front) (is_expired file.today e) d)) (ap (λ l. (if not (g e) then line_of (length front) (is_expired file.today e) d else []) ++ l) (rw whole at more))
+    rw (here, next_front front e, either (g e) (line_of (length front) (is_expired file.today e) d))
+    (ap (λ l. (if not (g e) then line_of (length front) (is_expired file.today e) d else []) ++ l) (rw whole at more))
   where
     either : (b : Bool) (line : List ℕ) → (if b then [] else line) ≡ (if not b then line else [])
     either true line = refl
@@ -87,7 +92,8 @@ none_listed file rs n [] = refl
 none_listed file rs n (e ∷ es) = refl
 
 -- a file that is not JSON has no lines
-pub no_file : (file : File) (rs : List Record) (bytes : List ℕ) → json_of (without_mark bytes) ≡ None → unused_text file rs (entries_in (file_object (Some bytes))) ≡ []
+pub no_file : (file : File) (rs : List Record) (bytes : List ℕ) → json_of (without_mark bytes) ≡ None
+    → unused_text file rs (entries_in (file_object (Some bytes))) ≡ []
 no_file file rs bytes is = rw is (none_listed file rs 0 file.entries)
 
 -- the value of an entry
@@ -102,13 +108,17 @@ slice_get-drop (x ∷ xs) (suc n) = slice_get-drop xs n
 
 pub lines_go_on : (today : Option ℕ) (marks : List Bool) (entries : List Entry) (nodes : List (List Token)) (front line : List ℕ) (n : ℕ) (e : Entry)
     → n < length entries → e ≡ slice_index_or entries n e → line ≡ line_at marks n (is_expired today e) (option_map node_value (slice_get nodes n))
-    → (front ++ line) ++ lines_by today marks (n + 1) (drop (n + 1) entries) (map node_value (drop (n + 1) nodes)) ≡ front ++ lines_by today marks n (drop n entries) (map node_value (drop n nodes))
+    → (front ++ line) ++ lines_by today marks (n + 1) (drop (n + 1) entries) (map node_value (drop (n + 1) nodes))
+    ≡ front ++ lines_by today marks n (drop n entries) (map node_value (drop n nodes))
 lines_go_on today marks entries nodes front line n e within is said =
     append_assoc front line _
-    ∙ ap (λ l. front ++ l) (rw (left_of entries n e within is, said, slice_get-drop nodes n) (by_rest (drop n nodes) (drop (n + 1) nodes) (sym (drop-drop 1 n nodes))))
+    ∙ ap (λ l. front ++ l)
+    (rw (left_of entries n e within is, said, slice_get-drop nodes n)
+    (by_rest (drop n nodes) (drop (n + 1) nodes) (sym (drop-drop 1 n nodes))))
   where
     by_rest : (here later : List (List Token)) → later ≡ drop 1 here
-        → line_at marks n (is_expired today e) (option_map node_value (slice_get here 0)) ++ lines_by today marks (n + 1) (drop (n + 1) entries) (map node_value later)
+        → line_at marks n (is_expired today e) (option_map node_value (slice_get here 0))
+        ++ lines_by today marks (n + 1) (drop (n + 1) entries) (map node_value later)
         ≡ lines_by today marks n (e ∷ drop (n + 1) entries) (map node_value here)
     by_rest [] later next = rw next (no_lines today marks (n + 1) (drop (n + 1) entries))
     by_rest (node ∷ here) later next = rw next refl
@@ -121,7 +131,8 @@ lines_end today marks entries ds front n past =
 
 -- ---- entries that stay
 
-marked_or_not : (marks : List Bool) (n : ℕ) (d : Data) (ds : List Data) → chosen (drop n marks) (d ∷ ds) ≡ (if mark_at marks n then d ∷ chosen (drop (n + 1) marks) ds else chosen (drop (n + 1) marks) ds)
+marked_or_not : (marks : List Bool) (n : ℕ) (d : Data) (ds : List Data)
+    → chosen (drop n marks) (d ∷ ds) ≡ (if mark_at marks n then d ∷ chosen (drop (n + 1) marks) ds else chosen (drop (n + 1) marks) ds)
 marked_or_not [] zero d ds = refl
 marked_or_not [] (suc n) d ds = let more : suc n + 1 ≡ suc (n + 1) = omega arith in rw more refl
 marked_or_not (true ∷ marks) zero d ds = refl
@@ -130,7 +141,8 @@ marked_or_not (mark ∷ marks) (suc n) d ds =
     let more : suc n + 1 ≡ suc (n + 1) = omega arith in
     rw more (marked_or_not marks n d ds)
 
-pub chosen_goes_on : (marks : List Bool) (nodes : List (List Token)) (front added : List Data) (n : ℕ) (node : List Token) → n < length nodes → node ≡ slice_index_or nodes n node
+pub chosen_goes_on : (marks : List Bool) (nodes : List (List Token)) (front added : List Data) (n : ℕ) (node : List Token)
+    → n < length nodes → node ≡ slice_index_or nodes n node
     → added ≡ if_marked (mark_at marks n) (node_value node)
     → (front ++ added) ++ chosen (drop (n + 1) marks) (map node_value (drop (n + 1) nodes)) ≡ front ++ chosen (drop n marks) (map node_value (drop n nodes))
 chosen_goes_on marks nodes front added n node within is value =

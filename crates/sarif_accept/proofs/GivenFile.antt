@@ -63,7 +63,8 @@ pub record Given (d : Data) (file : File) : Type 0 where
 the_file : (a b : File) → ◌≡◌ {A = Result File FileFault} (Ok a) (Ok b) → a ≡ b
 the_file a b e = cc
 
-given_at : (d : Data) (version : Version) (today : Option ℕ) (es : List Entry) (file : File) → entries_from version today 0 (entries_in d) ≡ Ok es → record { entries = es; today = today } ≡ file → Given d file
+given_at : (d : Data) (version : Version) (today : Option ℕ) (es : List Entry) (file : File)
+    → entries_from version today 0 (entries_in d) ≡ Ok es → record { entries = es; today = today } ≡ file → Given d file
 given_at d version today es file read same = rw (← same) (record { version = version; read = read })
 
 read_of_value : (d : Data) (today : Option ℕ) (file : File) → IsOrdered d → file_of_value today d ≡ Ok file → Given d file
@@ -75,7 +76,8 @@ read_of_value d today file ordered is =
     let s4 = both (entries_from s2.value today 0 s1.value) _ file s3.second in
     let same : elements_or_none (option_and_then as_array (get (codes "suppressions") d)) ≡ s1.value = checked_list _ s1.value s1.first in
     let whole : map entry_in s1.value ≡ s1.value =
-    entries_whole s2.value today 0 s1.value s4.value (rw (← same) (list_ordered (get (codes "suppressions") d) (λ e. get-IsOrdered (codes "suppressions") d e ordered))) s4.first in
+    entries_whole s2.value today 0 s1.value s4.value
+    (rw (← same) (list_ordered (get (codes "suppressions") d) (λ e. get-IsOrdered (codes "suppressions") d e ordered))) s4.first in
     let entries_are : entries_in d ≡ s1.value = ap (map entry_in) same ∙ whole in
     given_at d s2.value today s4.value file (rw entries_are s4.first) (the_file (record { entries = s4.value; today = today }) file s4.second)
 
@@ -111,4 +113,5 @@ value_today d today file is =
 pub today_given : (given : Option (List ℕ)) (today : Option ℕ) (file : File) → file_or_none given today ≡ Ok file → file.today ≡ today
 unfolding file_of
 today_given None today file is = ap (λ f. f.today) (sym (the_file (record { entries = []; today = today }) file is))
-today_given (Some bytes) today file is = let s1 = both (ok_or (json_of (without_mark bytes)) (whole NotJson)) _ file is in value_today s1.value today file s1.second
+today_given (Some bytes) today file is = let s1 =
+    both (ok_or (json_of (without_mark bytes)) (whole NotJson)) _ file is in value_today s1.value today file s1.second

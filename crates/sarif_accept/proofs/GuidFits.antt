@@ -25,7 +25,8 @@ small_byte hex k long all within =
     sum_small : (a b : ℕ) → a < 16 → b < 16 → a * 16 + b < 256
     sum_small a b h l = omega arith
 
-weighed : (a b c d e f g h i j k l m n o p : ℕ) → a < 256 → b < 256 → c < 256 → d < 256 → e < 256 → f < 256 → g < 256 → h < 256 → i < 256 → j < 256 → k < 256 → l < 256 → m < 256 → n < 256 → o < 256 → p < 256
+weighed : (a b c d e f g h i j k l m n o p : ℕ) → a < 256 → b < 256 → c < 256 → d < 256 → e < 256 → f < 256 → g < 256 → h < 256 → i < 256
+    → j < 256 → k < 256 → l < 256 → m < 256 → n < 256 → o < 256 → p < 256
     → from_be_bytes w128 (a ∷ b ∷ c ∷ d ∷ e ∷ f ∷ g ∷ h ∷ i ∷ j ∷ k ∷ l ∷ m ∷ n ∷ o ∷ p ∷ []) < 2 ^ 128
 weighed a b c d e f g h i j k l m n o p ha hb hc hd he hf hg hh hi hj hk hl hm hn ho hp = omega arith
 
@@ -33,7 +34,9 @@ small_number : (hex : List ℕ) → length hex ≡ 32 → list_all is_hex_digit 
 unfolding by_index
 small_number hex long all =
     let s : (k : ℕ) → k < 16 → byte_of_digits hex k < 256 = λ k within. small_byte hex k long all within in
-    weighed _ _ _ _ _ _ _ _ _ _ _ _ _ _ _ _ (s 0 (omega arith)) (s 1 (omega arith)) (s 2 (omega arith)) (s 3 (omega arith)) (s 4 (omega arith)) (s 5 (omega arith)) (s 6 (omega arith)) (s 7 (omega arith)) (s 8 (omega arith)) (s 9 (omega arith)) (s 10 (omega arith)) (s 11 (omega arith)) (s 12 (omega arith)) (s 13 (omega arith)) (s 14 (omega arith)) (s 15 (omega arith))
+    weighed _ _ _ _ _ _ _ _ _ _ _ _ _ _ _ _ (s 0 (omega arith)) (s 1 (omega arith)) (s 2 (omega arith)) (s 3 (omega arith))
+    (s 4 (omega arith)) (s 5 (omega arith)) (s 6 (omega arith)) (s 7 (omega arith)) (s 8 (omega arith)) (s 9 (omega arith))
+    (s 10 (omega arith)) (s 11 (omega arith)) (s 12 (omega arith)) (s 13 (omega arith)) (s 14 (omega arith)) (s 15 (omega arith))
 
 -- the bytes make a number of 128 bits
 abbrev FitsIfSome : Option (List ℕ) → Type 0
@@ -52,7 +55,8 @@ hyphenated_fits : (s : List ℕ) → FitsIfSome (parsed_hyphenated s)
 hyphenated_fits s = either _ (parsed_simple (digits_of s)) (λ _. simple_fits (digits_of s))
 
 braced_fits : (s : List ℕ) → FitsIfSome (parsed_braced s)
-braced_fits s = either ((length s == 38) && (slice_index s 0 == open_brace) && (slice_index s 37 == close_brace)) (parsed_hyphenated (take 36 (drop 1 s))) (λ _. hyphenated_fits (take 36 (drop 1 s)))
+braced_fits s = either ((length s == 38) && (slice_index s 0 == open_brace) && (slice_index s 37 == close_brace))
+    (parsed_hyphenated (take 36 (drop 1 s))) (λ _. hyphenated_fits (take 36 (drop 1 s)))
 
 urn_fits : (s : List ℕ) → FitsIfSome (parsed_urn s)
 urn_fits s = either ((length s == 45) && has_urn_prefix s) (parsed_hyphenated (drop 9 s)) (λ _. hyphenated_fits (drop 9 s))
@@ -62,7 +66,8 @@ parsed_fits s =
     first (length s == 32) (length s == 36) (length s == 38) (length s == 45) (parsed_simple s) (parsed_hyphenated s) (parsed_braced s) (parsed_urn s)
     (simple_fits s) (hyphenated_fits s) (braced_fits s) (urn_fits s)
   where
-    first : (a b c d : Bool) (o p q r : Option (List ℕ)) → FitsIfSome o → FitsIfSome p → FitsIfSome q → FitsIfSome r → FitsIfSome (if a then o else if b then p else if c then q else if d then r else None)
+    first : (a b c d : Bool) (o p q r : Option (List ℕ)) → FitsIfSome o → FitsIfSome p → FitsIfSome q → FitsIfSome r
+        → FitsIfSome (if a then o else if b then p else if c then q else if d then r else None)
     first true b c d o p q r ho hp hq hr = ho
     first false true c d o p q r ho hp hq hr = hp
     first false false true d o p q r ho hp hq hr = hq

@@ -26,13 +26,18 @@ module _ {S : Type 0} (tools failed tools' failed' : IndexSet (List ℕ) S) (run
   pub sets_of_failed : Updates bytes_eq tools tools' run.tool true → Updates bytes_eq failed failed' run.tool true → run.failed ≡ true
       → AreSetsOf tools failed runs → AreSetsOf tools' failed' (runs ++ run ∷ [])
   sets_of_failed more fails is are = record {
-    all = λ tool. more.0 tool ∙ rw (are.all tool) (either (bytes_eq run.tool tool) (list_any (is_of tool) runs)) ∙ sym (list_any-append (is_of tool) runs (run ∷ []));
-    of_failed = λ tool. fails.0 tool ∙ rw (are.of_failed tool) (with_failed (bytes_eq run.tool tool) (list_any (is_failed_of tool) runs) run.failed is) ∙ sym (list_any-append (is_failed_of tool) runs (run ∷ []));
+    all = λ tool. more.0 tool ∙ rw (are.all tool) (either (bytes_eq run.tool tool) (list_any (is_of tool) runs))
+        ∙ sym (list_any-append (is_of tool) runs (run ∷ []));
+    of_failed = λ tool. fails.0 tool
+        ∙ rw (are.of_failed tool) (with_failed (bytes_eq run.tool tool) (list_any (is_failed_of tool) runs) run.failed is)
+        ∙ sym (list_any-append (is_failed_of tool) runs (run ∷ []));
   }
 
   pub sets_of_other : Updates bytes_eq tools tools' run.tool true → run.failed ≡ false
       → AreSetsOf tools failed runs → AreSetsOf tools' failed (runs ++ run ∷ [])
   sets_of_other more is are = record {
-    all = λ tool. more.0 tool ∙ rw (are.all tool) (either (bytes_eq run.tool tool) (list_any (is_of tool) runs)) ∙ sym (list_any-append (is_of tool) runs (run ∷ []));
-    of_failed = λ tool. are.of_failed tool ∙ without_failed (bytes_eq run.tool tool) (list_any (is_failed_of tool) runs) run.failed is ∙ sym (list_any-append (is_failed_of tool) runs (run ∷ []));
+    all = λ tool. more.0 tool ∙ rw (are.all tool) (either (bytes_eq run.tool tool) (list_any (is_of tool) runs))
+        ∙ sym (list_any-append (is_of tool) runs (run ∷ []));
+    of_failed = λ tool. are.of_failed tool ∙ without_failed (bytes_eq run.tool tool) (list_any (is_failed_of tool) runs) run.failed is
+        ∙ sym (list_any-append (is_failed_of tool) runs (run ∷ []));
   }

@@ -36,19 +36,25 @@ in_fourth First = refl
 in_fourth Second = refl
 in_fourth Fourth = refl
 
-condition_in_fourth : (version : Version) (name : List ℕ) (kinds : List ConditionKind) → list_any (λ kind. bytes_eq name (name_of kind) && includes version (since kind)) kinds ≡ true
+condition_in_fourth : (version : Version) (name : List ℕ) (kinds : List ConditionKind)
+    → list_any (λ kind. bytes_eq name (name_of kind) && includes version (since kind)) kinds ≡ true
     → list_any (λ kind. bytes_eq name (name_of kind) && includes Fourth (since kind)) kinds ≡ true
 condition_in_fourth version name [] is = is
 condition_in_fourth version name (kind ∷ kinds) is =
-    elim (bytes_eq name (name_of kind) && includes version (since kind)) as (λ b. (bytes_eq name (name_of kind) && includes version (since kind)) ≡ b → (b || list_any (λ kind. bytes_eq name (name_of kind) && includes version (since kind)) kinds) ≡ true
-    → ((bytes_eq name (name_of kind) && includes Fourth (since kind)) || list_any (λ kind. bytes_eq name (name_of kind) && includes Fourth (since kind)) kinds) ≡ true) [
+    elim (bytes_eq name (name_of kind) && includes version (since kind)) as
+    (λ b. (bytes_eq name (name_of kind) && includes version (since kind)) ≡ b
+    → (b || list_any (λ kind. bytes_eq name (name_of kind) && includes version (since kind)) kinds) ≡ true
+    → ((bytes_eq name (name_of kind) && includes Fourth (since kind))
+    || list_any (λ kind. bytes_eq name (name_of kind) && includes Fourth (since kind)) kinds) ≡ true) [
       | true ↦ λ here _. or_left _ _ (and_from _ _ (and_parts (bytes_eq name (name_of kind)) (includes version (since kind)) here).0 (in_fourth (since kind)))
       | false ↦ λ _ more. or_right _ _ (condition_in_fourth version name kinds more)
     ] refl is
 
 known_by_fourth : (version : Version) (name : List ℕ) → has_member version name ≡ true → has_member Fourth name ≡ true
 known_by_fourth version name is =
-    by_tests (has_condition version name) (has_condition Fourth name) (bytes_eq name (codes "status")) (bytes_eq name (codes "justification")) (bytes_eq name (codes "expires")) (includes version Second) (condition_in_fourth version name all_kinds) is
+    by_tests (has_condition version name) (has_condition Fourth name) (bytes_eq name (codes "status"))
+    (bytes_eq name (codes "justification")) (bytes_eq name (codes "expires")) (includes version Second)
+    (condition_in_fourth version name all_kinds) is
   where
     by_tests : (a b s j e i : Bool) → (a ≡ true → b ≡ true) → (a || (s || (j || (e && i)))) ≡ true → (b || (s || (j || (e && true)))) ≡ true
     by_tests true b s j e i so is = or_left b _ (so refl)
@@ -237,12 +243,16 @@ pub record Parts (version : Version) (today : Option ℕ) (n : ℕ) (d : Data) (
 ok_same : (a b : List Entry) → ◌≡◌ {A = Result (List Entry) FileFault} (Ok a) (Ok b) → a ≡ b
 ok_same a b e = cc
 
-pub parts : (version : Version) (today : Option ℕ) (n : ℕ) (d : Data) (ds : List Data) (es : List Entry) → entries_from version today n (d ∷ ds) ≡ Ok es → Parts version today n d ds es
+pub parts : (version : Version) (today : Option ℕ) (n : ℕ) (d : Data) (ds : List Data) (es : List Entry)
+    → entries_from version today n (d ∷ ds) ≡ Ok es → Parts version today n d ds es
 unfolding entries_from
 parts version today n d ds es is =
-    elim (entry_of version today n d) as (λ r. entry_of version today n d ≡ r → (r >>= λ e. entries_from version today (n + 1) ds >>= λ es. Ok (e ∷ es)) ≡ Ok es → Parts version today n d ds es) [
+    elim (entry_of version today n d) as
+    (λ r. entry_of version today n d ≡ r → (r >>= λ e. entries_from version today (n + 1) ds >>= λ es. Ok (e ∷ es)) ≡ Ok es
+    → Parts version today n d ds es) [
       | Ok e ↦ λ first more.
-          elim (entries_from version today (n + 1) ds) as (λ r. entries_from version today (n + 1) ds ≡ r → (r >>= λ es. Ok (e ∷ es)) ≡ Ok es → Parts version today n d ds es) [
+          elim (entries_from version today (n + 1) ds) as
+          (λ r. entries_from version today (n + 1) ds ≡ r → (r >>= λ es. Ok (e ∷ es)) ≡ Ok es → Parts version today n d ds es) [
             | Ok rest ↦ λ later whole. record { first = e; rest = rest; whole = sym (ok_same (e ∷ rest) es whole); first_is = first; rest_is = later }
             | Err fault ↦ λ _ no. let never : ⊥ = cc in absurd never
           ] refl more
@@ -250,15 +260,21 @@ parts version today n d ds es is =
     ] refl is
 
 -- the entries that are kept are read as they were
-pub kept_read : (version : Version) (today : Option ℕ) (keep : Entry → Bool) (n m : ℕ) (ds : List Data) (es : List Entry) → entries_from version today n ds ≡ Ok es
+pub kept_read : (version : Version) (today : Option ℕ) (keep : Entry → Bool) (n m : ℕ) (ds : List Data) (es : List Entry)
+    → entries_from version today n ds ≡ Ok es
     → entries_from Fourth today m (chosen (map keep es) ds) ≡ Ok (filter keep es)
 unfolding entries_from
 kept_read version today keep n m [] es is = let none : [] ≡ es = ok_same [] es is in rw (← none) refl
 kept_read version today keep n m (d ∷ ds) es is =
     let p = parts version today n d ds es is in
-    let later : (m : ℕ) → entries_from Fourth today m (chosen (map keep p.rest) ds) ≡ Ok (filter keep p.rest) = λ m. kept_read version today keep (n + 1) m ds p.rest p.rest_is in
-    rw p.whole (elim (keep p.first) as (λ b. entries_from Fourth today m (chosen (b ∷ map keep p.rest) (d ∷ ds)) ≡ Ok (if b then p.first ∷ filter keep p.rest else filter keep p.rest)) [
-      | true ↦ one_ok Fourth today m d (chosen (map keep p.rest) ds) p.first (filter keep p.rest) (entry_kept version today n m d p.first p.first_is) (later (m + 1))
+    let later : (m : ℕ) → entries_from Fourth today m (chosen (map keep p.rest) ds) ≡ Ok (filter keep p.rest) =
+    λ m. kept_read version today keep (n + 1) m ds p.rest p.rest_is in
+    rw p.whole
+    (elim (keep p.first) as
+    (λ b. entries_from Fourth today m (chosen (b ∷ map keep p.rest) (d ∷ ds))
+    ≡ Ok (if b then p.first ∷ filter keep p.rest else filter keep p.rest)) [
+      | true ↦ one_ok Fourth today m d (chosen (map keep p.rest) ds) p.first (filter keep p.rest)
+          (entry_kept version today n m d p.first p.first_is) (later (m + 1))
       | false ↦ later m
     ])
 

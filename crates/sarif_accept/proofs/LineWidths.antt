@@ -45,22 +45,46 @@ mutual
 
   value_lines : (d : Data) (last : Last) (n width : ℕ) (ts : List Token) → width ≡ 2 * n + 1 → n + depth d ≤ max_depth
       → front last n + (lines_in width d + rest value n ts) ≤ rest last n (json_tokens (outline d) ++ ts)
-  value_lines null last n width ts wide small = omega (arith, in_front last n token.null refl, length-append (piece (last, n) token.null) (pretty_from (value, n) ts))
-  value_lines (boolean b) last n width ts wide small = omega (arith, in_front last n (token.boolean b) refl, length-append (piece (last, n) (token.boolean b)) (pretty_from (value, n) ts))
-  value_lines (number x) last n width ts wide small = omega (arith, in_front last n (token.number (number_text x)) refl, length-append (piece (last, n) (token.number (number_text x))) (pretty_from (value, n) ts))
-  value_lines (string s) last n width ts wide small = omega (arith, in_front last n (token.string s) refl, length-append (piece (last, n) (token.string s)) (pretty_from (value, n) ts))
+  value_lines null last n width ts wide small =
+      omega (arith, in_front last n token.null refl, length-append (piece (last, n) token.null) (pretty_from (value, n) ts))
+  value_lines (boolean b) last n width ts wide small =
+      omega (arith, in_front last n (token.boolean b) refl, length-append (piece (last, n) (token.boolean b)) (pretty_from (value, n) ts))
+  value_lines (number x) last n width ts wide small =
+      omega (
+        arith,
+        in_front last n (token.number (number_text x)) refl,
+        length-append (piece (last, n) (token.number (number_text x))) (pretty_from (value, n) ts),
+      )
+  value_lines (string s) last n width ts wide small =
+      omega (arith, in_front last n (token.string s) refl, length-append (piece (last, n) (token.string s)) (pretty_from (value, n) ts))
   value_lines (array ds) last n width ts wide small =
       let behind = items_tokens (items_outline ds) ++ ts in
       let more = items_lines ds bracket (n + 1) (width + 2) ts (omega (arith, wide)) (line_length (n + 1)) (omega (arith, small)) in
-      let inside : rest bracket (min (n + 1) (2 ^ 64 - 1)) behind ≡ rest bracket (n + 1) behind = ap (λ m. rest bracket m behind) (deeper n (omega (arith, small))) in
+      let inside : rest bracket (min (n + 1) (2 ^ 64 - 1)) behind ≡ rest bracket (n + 1) behind =
+      ap (λ m. rest bracket m behind) (deeper n (omega (arith, small))) in
       let outside : rest value ((n + 1) - 1) ts ≡ rest value n ts = ap (λ m. rest value m ts) (back n) in
-      omega (arith, in_front last n token.begin_array refl, more, inside, outside, length-append (piece (last, n) token.begin_array) (pretty_from (bracket, min (n + 1) (2 ^ 64 - 1)) behind))
+      omega (
+        arith,
+        in_front last n token.begin_array refl,
+        more,
+        inside,
+        outside,
+        length-append (piece (last, n) token.begin_array) (pretty_from (bracket, min (n + 1) (2 ^ 64 - 1)) behind),
+      )
   value_lines (object ms) last n width ts wide small =
       let behind = members_tokens (members_outline ms) ++ ts in
       let more = members_lines ms bracket (n + 1) (width + 2) ts (omega (arith, wide)) (line_length (n + 1)) (omega (arith, small)) in
-      let inside : rest bracket (min (n + 1) (2 ^ 64 - 1)) behind ≡ rest bracket (n + 1) behind = ap (λ m. rest bracket m behind) (deeper n (omega (arith, small))) in
+      let inside : rest bracket (min (n + 1) (2 ^ 64 - 1)) behind ≡ rest bracket (n + 1) behind =
+      ap (λ m. rest bracket m behind) (deeper n (omega (arith, small))) in
       let outside : rest value ((n + 1) - 1) ts ≡ rest value n ts = ap (λ m. rest value m ts) (back n) in
-      omega (arith, in_front last n token.begin_object refl, more, inside, outside, length-append (piece (last, n) token.begin_object) (pretty_from (bracket, min (n + 1) (2 ^ 64 - 1)) behind))
+      omega (
+        arith,
+        in_front last n token.begin_object refl,
+        more,
+        inside,
+        outside,
+        length-append (piece (last, n) token.begin_object) (pretty_from (bracket, min (n + 1) (2 ^ 64 - 1)) behind),
+      )
 
   items_lines : (ds : Items) (last : Last) (n width : ℕ) (ts : List Token) → width ≡ 2 * n + 1 → front last n ≡ 2 * n + 1 → n + items_depth ds ≤ max_depth
       → item_lines width ds + rest value (n - 1) ts ≤ rest last n (items_tokens (items_outline ds) ++ ts)
@@ -82,7 +106,16 @@ mutual
       let joined : rest name n ((own ++ others) ++ ts) ≡ rest name n (own ++ (others ++ ts)) = ap (λ us. rest name n us) (append_assoc own others ts) in
       let here = value_lines d name n width (others ++ ts) wide (omega (arith, small)) in
       let more = members_lines ms value n width ts wide (line_length n) (omega (arith, small)) in
-      omega (arith, joined, here, more, apart, wide, in_front last n (token.key k) refl, length-append (piece (last, n) (token.key k)) (pretty_from (name, n) ((own ++ others) ++ ts)))
+      omega (
+        arith,
+        joined,
+        here,
+        more,
+        apart,
+        wide,
+        in_front last n (token.key k) refl,
+        length-append (piece (last, n) (token.key k)) (pretty_from (name, n) ((own ++ others) ++ ts)),
+      )
 
 -- a file's text is as long as its lines
 pub file_lines : (d : Data) → depth d ≤ max_depth → lines_in 1 d ≤ length (file_text d)

@@ -1,4 +1,4 @@
--- The conditions of kinds, kind by kind.
+-- The conditions of a list of kinds, one kind at a time.
 use Rattle.std.proofs.Common.{◌≡◌, ℕ, ◌+◌, ◌<◌, ◌≤◌, List, [], ◌∷◌, ◌++◌, length, drop, slice_index_or, Option, Some, None, option_map, refl, sym, ap, ◌∙◌, arith}
 use Rattle.std.proofs.lemmas.List.{append-nil, append_assoc, at_drop_all}
 use Rattle.serde_json.specs.Data.{Members, no_members}

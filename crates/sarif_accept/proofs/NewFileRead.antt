@@ -17,14 +17,20 @@ use Rattle.sarif_accept.specs.Until.{HasGuid, IsDated}
 use Rattle.sarif_accept.proofs.FileRead.{file_read}
 use Rattle.sarif_accept.proofs.GivenFile.{entries_given, today_given}
 
-pub new_file_read : (how : How) (counts : MayBeHit) (given : Option (List ℕ)) (today : Option ℕ) (file : File) (rs : List Record) (states : List State) (text : List ℕ)
+pub new_file_read : (how : How) (counts : MayBeHit) (given : Option (List ℕ)) (today : Option ℕ) (file : File) (rs : List Record)
+    (states : List State) (text : List ℕ)
     → file_or_none given today ≡ Ok file → AllByRecursion HasGuid (added_for how counts file rs states) → IsDated today how.renewal.until
-    → length (renewed_entries given (map (is_kept how.renewal.prune how.heard file rs) file.entries) (added_for how counts file rs states) how.renewal) ≤ most_entries
-    → json_of (without_mark text) ≡ Some (renewed_file given (map (is_kept how.renewal.prune how.heard file rs) file.entries) (added_for how counts file rs states) how.renewal)
+    → length
+    (renewed_entries given (map (is_kept how.renewal.prune how.heard file rs) file.entries)
+    (added_for how counts file rs states) how.renewal) ≤ most_entries
+    → json_of (without_mark text)
+    ≡ Some
+    (renewed_file given (map (is_kept how.renewal.prune how.heard file rs) file.entries) (added_for how counts file rs states) how.renewal)
     → file_of text today ≡ Ok (file_after how counts file rs states)
 new_file_read how counts given today file rs states text is fits dated few reads =
     let from = entries_given given today file is in
     let same : file.today ≡ today = today_given given today file is in
     let dated_here : IsDated file.today how.renewal.until = rw same dated in
-    let read = file_read how counts file rs states from.version (entries_in (file_object given)) (others_in (file_object given)) text from.read fits dated_here few reads in
+    let read = file_read how counts file rs states from.version (entries_in (file_object given))
+    (others_in (file_object given)) text from.read fits dated_here few reads in
     ap (file_of text) (sym same) ∙ read

@@ -21,7 +21,8 @@ line = 10 ∷ []
 
 no_unit : (a b c : ℕ) → code_unit a b c 10 ≡ None
 unfolding code_unit
-no_unit a b c = by_test (is_digit a 16 && is_digit b 16 && is_digit c 16) (Some (digit_value a * 4096 + digit_value b * 256 + digit_value c * 16 + digit_value 10))
+no_unit a b c = by_test (is_digit a 16 && is_digit b 16 && is_digit c 16)
+    (Some (digit_value a * 4096 + digit_value b * 256 + digit_value c * 16 + digit_value 10))
   where
     by_test : (x : Bool) (o : Option ℕ) → cond (x && false) o None ≡ None
     by_test true o = refl
@@ -31,7 +32,8 @@ content_line : (w : Within) (xs : List ℕ) → content w (xs ++ line) ≡ conte
 unfolding content short_escape
 content_line plain [] = refl
 content_line plain (x ∷ xs) =
-    ap₂ (λ a b. cond (x == ascii.quote) (Some []) (cond (x == ascii.backslash) a (cond (nat_lt x ascii.space) None (prepend (x ∷ []) b)))) (content_line after_backslash xs) (content_line plain xs)
+    ap₂ (λ a b. cond (x == ascii.quote) (Some []) (cond (x == ascii.backslash) a (cond (nat_lt x ascii.space) None (prepend (x ∷ []) b))))
+    (content_line after_backslash xs) (content_line plain xs)
 content_line after_backslash [] = refl
 content_line after_backslash (x ∷ xs) =
     ap₂ (λ a b. cond (x == ascii.lower_u) a (option_and_then (λ c. prepend (c ∷ []) b) (short_escape x))) (content_line after_u xs) (content_line plain xs)
@@ -40,7 +42,9 @@ content_line after_u (a ∷ []) = refl
 content_line after_u (a ∷ b ∷ []) = refl
 content_line after_u (a ∷ b ∷ c ∷ []) = rw (no_unit a b c) refl
 content_line after_u (a ∷ b ∷ c ∷ d ∷ xs) =
-    λ i. option_and_then (λ u. cond (is_high_surrogate u) (content_line (after_high u) xs i) (cond (is_low_surrogate u) None (prepend (encode_utf8 u) (content_line plain xs i)))) (code_unit a b c d)
+    λ i. option_and_then
+    (λ u. cond (is_high_surrogate u) (content_line (after_high u) xs i)
+    (cond (is_low_surrogate u) None (prepend (encode_utf8 u) (content_line plain xs i)))) (code_unit a b c d)
 content_line (after_high h) [] = refl
 content_line (after_high h) (s ∷ []) = refl
 content_line (after_high h) (s ∷ u ∷ []) = refl
@@ -52,7 +56,9 @@ content_line (after_high h) (s ∷ u ∷ a ∷ b ∷ c ∷ []) = rw (no_unit a b
     none_either true = refl
     none_either false = refl
 content_line (after_high h) (s ∷ u ∷ a ∷ b ∷ c ∷ d ∷ xs) =
-    λ i. cond ((s == ascii.backslash) && (u == ascii.lower_u)) (option_and_then (λ l. cond (is_low_surrogate l) (prepend (encode_utf8 (surrogate_pair h l)) (content_line plain xs i)) None) (code_unit a b c d)) None
+    λ i. cond ((s == ascii.backslash) && (u == ascii.lower_u))
+    (option_and_then (λ l. cond (is_low_surrogate l) (prepend (encode_utf8 (surrogate_pair h l)) (content_line plain xs i)) None)
+    (code_unit a b c d)) None
 
 -- ---- words
 
@@ -83,27 +89,37 @@ after_minus_line (x ∷ xs) = elim (x == ascii.minus) as (λ b. cond b (xs ++ li
 
 after_sign_line : (t : List ℕ) → after_sign (t ++ line) ≡ after_sign t ++ line
 after_sign_line [] = refl
-after_sign_line (x ∷ xs) = elim ((x == ascii.minus) || (x == ascii.plus)) as (λ b. cond b (xs ++ line) (x ∷ (xs ++ line)) ≡ cond b xs (x ∷ xs) ++ line) [ true ↦ refl | false ↦ refl ]
+after_sign_line (x ∷ xs) =
+    elim ((x == ascii.minus) || (x == ascii.plus)) as
+    (λ b. cond b (xs ++ line) (x ∷ (xs ++ line)) ≡ cond b xs (x ∷ xs) ++ line) [ true ↦ refl | false ↦ refl ]
 
 after_whole_line : (t : List ℕ) → after_whole (t ++ line) ≡ ended (after_whole t)
 after_whole_line [] = refl
 after_whole_line (x ∷ xs) =
     ap (λ o. cond (x == ascii.zero) (Some (xs ++ line)) o) (after_digits_line (x ∷ xs))
-    ∙ elim (x == ascii.zero) as (λ b. cond b (Some (xs ++ line)) (ended (after_digits (x ∷ xs))) ≡ ended (cond b (Some xs) (after_digits (x ∷ xs)))) [ true ↦ refl | false ↦ refl ]
+    ∙ elim (x == ascii.zero) as
+    (λ b. cond b (Some (xs ++ line)) (ended (after_digits (x ∷ xs))) ≡ ended (cond b (Some xs) (after_digits (x ∷ xs))))
+    [ true ↦ refl | false ↦ refl ]
 
 after_fraction_line : (t : List ℕ) → after_fraction (t ++ line) ≡ ended (after_fraction t)
 after_fraction_line [] = refl
 after_fraction_line (x ∷ xs) =
     ap (λ o. cond (x == ascii.dot) o (Some (x ∷ (xs ++ line)))) (after_digits_line xs)
-    ∙ elim (x == ascii.dot) as (λ b. cond b (ended (after_digits xs)) (Some (x ∷ (xs ++ line))) ≡ ended (cond b (after_digits xs) (Some (x ∷ xs)))) [ true ↦ refl | false ↦ refl ]
+    ∙ elim (x == ascii.dot) as
+    (λ b. cond b (ended (after_digits xs)) (Some (x ∷ (xs ++ line))) ≡ ended (cond b (after_digits xs) (Some (x ∷ xs))))
+    [ true ↦ refl | false ↦ refl ]
 
 after_exponent_line : (t : List ℕ) → after_exponent (t ++ line) ≡ ended (after_exponent t)
 after_exponent_line [] = refl
 after_exponent_line (x ∷ xs) =
-    ap (λ o. cond ((x == ascii.lower_e) || (x == ascii.upper_e)) o (Some (x ∷ (xs ++ line)))) (ap after_digits (after_sign_line xs) ∙ after_digits_line (after_sign xs))
-    ∙ elim ((x == ascii.lower_e) || (x == ascii.upper_e)) as (λ b. cond b (ended (after_digits (after_sign xs))) (Some (x ∷ (xs ++ line))) ≡ ended (cond b (after_digits (after_sign xs)) (Some (x ∷ xs)))) [ true ↦ refl | false ↦ refl ]
+    ap (λ o. cond ((x == ascii.lower_e) || (x == ascii.upper_e)) o (Some (x ∷ (xs ++ line))))
+    (ap after_digits (after_sign_line xs) ∙ after_digits_line (after_sign xs))
+    ∙ elim ((x == ascii.lower_e) || (x == ascii.upper_e)) as
+    (λ b. cond b (ended (after_digits (after_sign xs))) (Some (x ∷ (xs ++ line)))
+    ≡ ended (cond b (after_digits (after_sign xs)) (Some (x ∷ xs)))) [ true ↦ refl | false ↦ refl ]
 
-then_line : (f : List ℕ → Option (List ℕ)) → ((t : List ℕ) → f (t ++ line) ≡ ended (f t)) → (o : Option (List ℕ)) → option_and_then f (ended o) ≡ ended (option_and_then f o)
+then_line : (f : List ℕ → Option (List ℕ)) → ((t : List ℕ) → f (t ++ line) ≡ ended (f t)) → (o : Option (List ℕ))
+    → option_and_then f (ended o) ≡ ended (option_and_then f o)
 then_line f each None = refl
 then_line f each (Some t) = each t
 
@@ -133,9 +149,13 @@ no_line_first y ys none = elim (nat_eq y 10) as (λ b. cond b false (no_newline 
 
 no_line_more : (y : ℕ) (ys : List ℕ) → no_newline (y ∷ ys) ≡ true → no_newline ys ≡ true
 unfolding no_newline
-no_line_more y ys none = elim (nat_eq y 10) as (λ b. cond b false (no_newline ys) ≡ true → no_newline ys ≡ true) [ true ↦ λ e. let never : ⊥ = cc in absurd never | false ↦ λ e. e ] none
+no_line_more y ys none =
+    elim (nat_eq y 10) as (λ b. cond b false (no_newline ys) ≡ true → no_newline ys ≡ true)
+    [ true ↦ λ e. let never : ⊥ = cc in absurd never | false ↦ λ e. e ] none
 
-starts_line : (name t : List ℕ) → no_newline name ≡ true → (starts_with nat_eq (t ++ line) name && ends_word (drop (length name) (t ++ line))) ≡ (starts_with nat_eq t name && ends_word (drop (length name) t))
+starts_line : (name t : List ℕ) → no_newline name ≡ true
+    → (starts_with nat_eq (t ++ line) name && ends_word (drop (length name) (t ++ line)))
+    ≡ (starts_with nat_eq t name && ends_word (drop (length name) t))
 starts_line [] t none = ends_line t
 starts_line (y ∷ ys) [] none = rw (no_line_first y ys none) refl
 starts_line (y ∷ ys) (x ∷ xs) none = by_test (nat_eq y x) _ _ _ _ (starts_line ys xs (no_line_more y ys none))
@@ -170,7 +190,8 @@ word_line x xs =
 
 -- ---- the whole
 
-lex_line_at : (m : Mode) (c : Class) (x : ℕ) (xs : List ℕ) → ((n : Mode) → lex n (xs ++ line) ≡ lex n xs) → lex_byte m c x (xs ++ line) (λ n. lex n (xs ++ line)) ≡ lex_byte m c x xs (λ n. lex n xs)
+lex_line_at : (m : Mode) (c : Class) (x : ℕ) (xs : List ℕ) → ((n : Mode) → lex n (xs ++ line) ≡ lex n xs)
+    → lex_byte m c x (xs ++ line) (λ n. lex n (xs ++ line)) ≡ lex_byte m c x xs (λ n. lex n xs)
 lex_line_at between quote x xs more = λ i. token (string_token (content_line plain xs i)) ∷ more in_string i
 lex_line_at between backslash x xs more = ap (λ l. token bad ∷ l) (more in_word)
 lex_line_at between operator x xs more = ap (λ l. operator_lexeme x ∷ l) (more between)

@@ -34,7 +34,8 @@ AreWhole ds = items_have_float (items_of ds) ≡ false
 chosen_whole : (marks : List Bool) (ds : List Data) → AreWhole ds → AreWhole (chosen marks ds)
 chosen_whole [] ds h = refl
 chosen_whole (mark ∷ marks) [] h = refl
-chosen_whole (true ∷ marks) (d ∷ ds) h = let parts = or_parts (has_float d) (items_have_float (items_of ds)) h in rw (parts.0, chosen_whole marks ds parts.1) refl
+chosen_whole (true ∷ marks) (d ∷ ds) h = let parts =
+    or_parts (has_float d) (items_have_float (items_of ds)) h in rw (parts.0, chosen_whole marks ds parts.1) refl
 chosen_whole (false ∷ marks) (d ∷ ds) h = chosen_whole marks ds (or_parts (has_float d) (items_have_float (items_of ds)) h).1
 
 both_whole : (xs ys : List Data) → AreWhole xs → AreWhole ys → AreWhole (xs ++ ys)
@@ -67,7 +68,8 @@ each_whole until = record { date = date_whole until; text = λ s. refl; pairs = 
 made_whole : (rs : List Record) (reason : Option (List ℕ)) (until : Option ℕ) → AreWhole (map (λ r. entry_for r reason until) rs)
 made_whole [] reason until = refl
 made_whole (r ∷ rs) reason until =
-    let one : members_have_float (members_from (entry_rows (asked_of r) reason until)) ≡ false = entry_keeps put_keeps until (each_whole until) (asked_of r) reason in
+    let one : members_have_float (members_from (entry_rows (asked_of r) reason until)) ≡ false =
+    entry_keeps put_keeps until (each_whole until) (asked_of r) reason in
     rw (one, made_whole rs reason until) refl
 
 -- ---- the new file
@@ -75,6 +77,9 @@ made_whole (r ∷ rs) reason until =
 pub new_whole : (d : Data) (kept : List Bool) (rs : List Record) (reason : Option (List ℕ)) (until : Option ℕ)
     → has_float (new_file d kept (map (λ r. entry_for r reason until) rs)) ≡ false
 new_whole d kept rs reason until =
-    put_whole (codes "suppressions") (array (items_of (entries_after d kept (map (λ r. entry_for r reason until) rs)))) (put (codes "version") (number (unsigned 4)) (others_in d))
-    (both_whole (chosen kept (entries_in d)) (map (λ r. entry_for r reason until) rs) (chosen_whole kept (entries_in d) (objects_whole (elements_or_none (option_and_then as_array (get (codes "suppressions") d))))) (made_whole rs reason until))
+    put_whole (codes "suppressions") (array (items_of (entries_after d kept (map (λ r. entry_for r reason until) rs))))
+    (put (codes "version") (number (unsigned 4)) (others_in d))
+    (both_whole (chosen kept (entries_in d)) (map (λ r. entry_for r reason until) rs)
+    (chosen_whole kept (entries_in d) (objects_whole (elements_or_none (option_and_then as_array (get (codes "suppressions") d)))))
+    (made_whole rs reason until))
     (put_whole (codes "version") (number (unsigned 4)) (others_in d) refl (in_whole (without_member (codes "suppressions") d)))

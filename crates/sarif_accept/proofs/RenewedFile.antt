@@ -40,21 +40,31 @@ object_depth : (given : Option (List ℕ)) → depth (file_object given) ≤ max
 object_depth None = omega arith
 object_depth (Some bytes) = json_depth (without_mark bytes) (json_of (without_mark bytes)) refl
 
-entries_made : (reason : Option (List ℕ)) (until : Option ℕ) (xs : List (Bor Record)) → map (λ r. entry_for r.now reason until) xs ≡ map (λ r. entry_for r reason until) (map (λ r. r.now) xs)
+entries_made : (reason : Option (List ℕ)) (until : Option ℕ) (xs : List (Bor Record))
+    → map (λ r. entry_for r.now reason until) xs ≡ map (λ r. entry_for r reason until) (map (λ r. r.now) xs)
 entries_made reason until [] = refl
 entries_made reason until (x ∷ xs) = ap (λ l. entry_for x.now reason until ∷ l) (entries_made reason until xs)
 
-pub all_entries : (given : Option (List ℕ)) (kept : List Bool) (xs : List (Bor Record)) (renewal : Renewal) (old new : List Data) → old ≡ chosen kept (entries_in (file_object given))
+pub all_entries : (given : Option (List ℕ)) (kept : List Bool) (xs : List (Bor Record)) (renewal : Renewal) (old new : List Data)
+    → old ≡ chosen kept (entries_in (file_object given))
     → new ≡ old ++ map (λ r. entry_for r.now renewal.reason renewal.until) xs → new ≡ renewed_entries given kept (map (λ r. r.now) xs) renewal
 all_entries given kept xs renewal old new is more = more ∙ ap₂ (λ a b. a ++ b) is (entries_made renewal.reason renewal.until xs)
 
 -- as many entries as are kept and are added
-pub counted : {A : Type 0} (f : A → Data) (items : List A) (xs : List (Bor Record)) (given : Option (List ℕ)) (kept : List Bool) (renewal : Renewal) → map f items ≡ chosen kept (entries_in (file_object given))
+pub counted : {A : Type 0} (f : A → Data) (items : List A) (xs : List (Bor Record)) (given : Option (List ℕ)) (kept : List Bool)
+    (renewal : Renewal) → map f items ≡ chosen kept (entries_in (file_object given))
     → length (renewed_entries given kept (map (λ r. r.now) xs) renewal) ≡ length items + length xs
 counted f items xs given kept renewal is =
     let same : length (map f items) ≡ length (chosen kept (entries_in (file_object given))) = ap length is in
     let rs = map (λ r. r.now) xs in
-    omega (arith, length-append (chosen kept (entries_in (file_object given))) (map (λ r. entry_for r renewal.reason renewal.until) rs), length-map items f, length-map rs (λ r. entry_for r renewal.reason renewal.until), length-map xs (λ r. r.now), same)
+    omega (
+      arith,
+      length-append (chosen kept (entries_in (file_object given))) (map (λ r. entry_for r renewal.reason renewal.until) rs),
+      length-map items f,
+      length-map rs (λ r. entry_for r renewal.reason renewal.until),
+      length-map xs (λ r. r.now),
+      same,
+    )
 
 module _ (given : Option (List ℕ)) (kept : List Bool) (added : List Record) (renewal : Renewal) where
   pub is_shallow : (d : Data) → d ≡ renewed_file given kept added renewal → depth d ≤ max_depth
@@ -68,21 +78,25 @@ module _ (given : Option (List ℕ)) (kept : List Bool) (added : List Record) (r
       let test : nat_lt most_entries (length (renewed_entries given kept added renewal)) ≡ true = grind (arith, nat_tests) in
       rw test refl
 
-  pub is_too_long : (length (renewed_entries given kept added renewal) ≤ most_entries) → most_bytes < length (file_text (renewed_file given kept added renewal)) → renewal_cause given kept added renewal ≡ Some TooLong
+  pub is_too_long : (length (renewed_entries given kept added renewal) ≤ most_entries)
+      → most_bytes < length (file_text (renewed_file given kept added renewal)) → renewal_cause given kept added renewal ≡ Some TooLong
   is_too_long few long =
       let test : nat_lt most_entries (length (renewed_entries given kept added renewal)) ≡ false = grind (arith, nat_tests) in
       let size : nat_lt most_bytes (length (file_text (renewed_file given kept added renewal))) ≡ true = grind (arith, nat_tests) in
       rw (test, size) refl
 
   -- lines that are too long are found before the text is made
-  pub is_too_indented : (d : Data) → d ≡ renewed_file given kept added renewal → (length (renewed_entries given kept added renewal) ≤ most_entries) → nat_lt most_bytes (lines_in 1 d) ≡ true
+  pub is_too_indented : (d : Data) → d ≡ renewed_file given kept added renewal
+      → (length (renewed_entries given kept added renewal) ≤ most_entries) → nat_lt most_bytes (lines_in 1 d) ≡ true
       → renewal_cause given kept added renewal ≡ Some TooLong
   is_too_indented d is few long =
-      let whole : lines_in 1 d ≤ length (file_text (renewed_file given kept added renewal)) = subst (λ e. lines_in 1 d ≤ length (file_text e)) is (file_lines d (is_shallow d is)) in
+      let whole : lines_in 1 d ≤ length (file_text (renewed_file given kept added renewal)) =
+      subst (λ e. lines_in 1 d ≤ length (file_text e)) is (file_lines d (is_shallow d is)) in
       let over : most_bytes < lines_in 1 d = grind (arith, nat_tests) in
       is_too_long few (omega (arith, whole, over))
 
-  pub is_accepted : (length (renewed_entries given kept added renewal) ≤ most_entries) → length (file_text (renewed_file given kept added renewal)) ≤ most_bytes → renewal_cause given kept added renewal ≡ None
+  pub is_accepted : (length (renewed_entries given kept added renewal) ≤ most_entries)
+      → length (file_text (renewed_file given kept added renewal)) ≤ most_bytes → renewal_cause given kept added renewal ≡ None
   is_accepted few short =
       let test : nat_lt most_entries (length (renewed_entries given kept added renewal)) ≡ false = grind (arith, nat_tests) in
       let size : nat_lt most_bytes (length (file_text (renewed_file given kept added renewal))) ≡ false = grind (arith, nat_tests) in
@@ -91,7 +105,8 @@ module _ (given : Option (List ℕ)) (kept : List Bool) (added : List Record) (r
   -- what is found before entries are made is why there is no file
   pub room_cause : (kept_count added_count : ℕ) (cause fault : Cause) → length (renewed_entries given kept added renewal) ≡ kept_count + added_count
       → ◌≡◌ {A = Refusal Cause} (refusal.Fault cause) (refusal.Fault fault)
-      → ((cause ≡ Of TooMany) × (most_entries < kept_count + added_count)) ⊎ ((cause ≡ TooLong) × (kept_count + added_count ≤ most_entries) × (most_bytes < weights_of renewal added))
+      → ((cause ≡ Of TooMany) × (most_entries < kept_count + added_count)) ⊎
+      ((cause ≡ TooLong) × (kept_count + added_count ≤ most_entries) × (most_bytes < weights_of renewal added))
       → renewal_cause given kept added renewal ≡ Some fault
   room_cause kept_count added_count cause fault size same (inl many) =
       let one : cause ≡ fault = cc in

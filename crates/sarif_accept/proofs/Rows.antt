@@ -73,17 +73,22 @@ abbrev pub are_known : Version → List Row → Bool
 are_known version [] = true
 are_known version (row ∷ rows) = has_member version row.0 && are_known version rows
 
-put_on : (o : Ordering) (version : Version) (k l : List ℕ) (d e : Data) (ms : Members) → slice_cmp nat_cmp k l ≡ o → has_member version k ≡ true → are_members_of version (member l e ms) ≡ true
+put_on : (o : Ordering) (version : Version) (k l : List ℕ) (d e : Data) (ms : Members) → slice_cmp nat_cmp k l ≡ o
+    → has_member version k ≡ true → are_members_of version (member l e ms) ≡ true
     → are_members_of version (put k d ms) ≡ true
     → are_members_of version (match_ordering o (member k d (member l e ms)) (member l d ms) (member l e (put k d ms))) ≡ true
 put_on Less version k l d e ms is has all later = and_from _ _ has all
-put_on Equal version k l d e ms is has all later = and_from _ _ (and_parts (has_member version l) (are_members_of version ms) all).0 (and_parts (has_member version l) (are_members_of version ms) all).1
+put_on Equal version k l d e ms is has all later =
+    and_from _ _ (and_parts (has_member version l) (are_members_of version ms) all).0
+    (and_parts (has_member version l) (are_members_of version ms) all).1
 put_on Greater version k l d e ms is has all later = and_from _ _ (and_parts (has_member version l) (are_members_of version ms) all).0 later
 
-put_known : (version : Version) (k : List ℕ) (d : Data) (ms : Members) → has_member version k ≡ true → are_members_of version ms ≡ true → are_members_of version (put k d ms) ≡ true
+put_known : (version : Version) (k : List ℕ) (d : Data) (ms : Members) → has_member version k ≡ true → are_members_of version ms ≡ true
+    → are_members_of version (put k d ms) ≡ true
 put_known version k d no_members has all = and_from _ _ has refl
 put_known version k d (member l e ms) has all =
-    put_on (slice_cmp nat_cmp k l) version k l d e ms refl has all (put_known version k d ms has (and_parts (has_member version l) (are_members_of version ms) all).1)
+    put_on (slice_cmp nat_cmp k l) version k l d e ms refl has all
+    (put_known version k d ms has (and_parts (has_member version l) (are_members_of version ms) all).1)
 
 pub known_rows : (version : Version) (rows : List Row) → are_known version rows ≡ true → are_members_of version (members_from rows) ≡ true
 known_rows version [] e = refl

@@ -38,7 +38,8 @@ mutual
   members_stripped (member k d ms) =
       let h = stripped_depth d in
       let more = members_stripped ms in
-      elim (is_fractional d) as (λ b. members_depth (if b then stripped_members ms else member k (stripped d) (stripped_members ms)) ≤ members_depth (member k d ms)) [
+      elim (is_fractional d) as
+      (λ b. members_depth (if b then stripped_members ms else member k (stripped d) (stripped_members ms)) ≤ members_depth (member k d ms)) [
         | true ↦ omega (arith, more)
         | false ↦ omega (arith, h, more)
       ]
@@ -71,7 +72,8 @@ without_member_depth name (object ms) = let h = without_depth name ms in omega (
 
 -- ---- what is put
 
-depth_on : (o : Ordering) (a b c : Members) (n : ℕ) → members_depth a ≤ n → members_depth b ≤ n → members_depth c ≤ n → members_depth (match_ordering o a b c) ≤ n
+depth_on : (o : Ordering) (a b c : Members) (n : ℕ) → members_depth a ≤ n → members_depth b ≤ n → members_depth c ≤ n
+    → members_depth (match_ordering o a b c) ≤ n
 depth_on Less a b c n p q r = p
 depth_on Equal a b c n p q r = q
 depth_on Greater a b c n p q r = r
@@ -79,7 +81,8 @@ depth_on Greater a b c n p q r = r
 put_depth : (k : List ℕ) (d : Data) (ms : Members) (n : ℕ) → depth d ≤ n → members_depth ms ≤ n → members_depth (put k d ms) ≤ n
 put_depth k d no_members n p q = omega arith
 put_depth k d (member l e ms) n p q =
-    depth_on (slice_cmp nat_cmp k l) (member k d (member l e ms)) (member l d ms) (member l e (put k d ms)) n (omega (arith, p, q)) (omega (arith, p, q)) (let more = put_depth k d ms n p (omega (arith, q)) in omega (arith, q, more))
+    depth_on (slice_cmp nat_cmp k l) (member k d (member l e ms)) (member l d ms) (member l e (put k d ms)) n (omega (arith, p, q))
+    (omega (arith, p, q)) (let more = put_depth k d ms n p (omega (arith, q)) in omega (arith, q, more))
 
 -- ---- lists
 
@@ -90,7 +93,8 @@ AreWithin n ds = items_depth (items_of ds) ≤ n
 chosen_within : (n : ℕ) (marks : List Bool) (ds : List Data) → AreWithin n ds → AreWithin n (chosen marks ds)
 chosen_within n [] ds h = omega arith
 chosen_within n (mark ∷ marks) [] h = omega arith
-chosen_within n (true ∷ marks) (d ∷ ds) h = let more : items_depth (items_of (chosen marks ds)) ≤ n = chosen_within n marks ds (omega (arith, h)) in omega (arith, h, more)
+chosen_within n (true ∷ marks) (d ∷ ds) h = let more : items_depth (items_of (chosen marks ds)) ≤ n =
+    chosen_within n marks ds (omega (arith, h)) in omega (arith, h, more)
 chosen_within n (false ∷ marks) (d ∷ ds) h = chosen_within n marks ds (omega (arith, h))
 
 both_within : (n : ℕ) (xs ys : List Data) → AreWithin n xs → AreWithin n ys → AreWithin n (xs ++ ys)
@@ -161,7 +165,8 @@ each_within until = record {
 made_within : (rs : List Record) (reason : Option (List ℕ)) (until : Option ℕ) (n : ℕ) → 2 ≤ n → AreWithin n (map (λ r. entry_for r reason until) rs)
 made_within [] reason until n room = omega arith
 made_within (r ∷ rs) reason until n room =
-    let one : members_depth (members_from (entry_rows (asked_of r) reason until)) ≤ 1 = entry_keeps (put_keeps 1) until (each_within until) (asked_of r) reason in
+    let one : members_depth (members_from (entry_rows (asked_of r) reason until)) ≤ 1 =
+    entry_keeps (put_keeps 1) until (each_within until) (asked_of r) reason in
     let more : items_depth (items_of (map (λ r. entry_for r reason until) rs)) ≤ n = made_within rs reason until n room in
     omega (arith, one, more, room)
 
@@ -169,8 +174,10 @@ made_within (r ∷ rs) reason until n room =
 
 file_within : (entries : List Data) (ms : Members) (n : ℕ) → AreWithin n entries → members_depth ms ≤ suc n → depth (file_with entries ms) ≤ suc (suc n)
 file_within entries ms n few rest =
-    let four : members_depth (put (codes "version") (number (unsigned 4)) ms) ≤ suc n = put_depth (codes "version") (number (unsigned 4)) ms (suc n) (omega arith) rest in
-    let all : members_depth (put (codes "suppressions") (array (items_of entries)) (put (codes "version") (number (unsigned 4)) ms)) ≤ suc n = put_depth (codes "suppressions") (array (items_of entries)) _ (suc n) (omega (arith, few)) four in
+    let four : members_depth (put (codes "version") (number (unsigned 4)) ms) ≤ suc n =
+    put_depth (codes "version") (number (unsigned 4)) ms (suc n) (omega arith) rest in
+    let all : members_depth (put (codes "suppressions") (array (items_of entries)) (put (codes "version") (number (unsigned 4)) ms)) ≤ suc
+    n = put_depth (codes "suppressions") (array (items_of entries)) _ (suc n) (omega (arith, few)) four in
     omega (arith, all)
 
 pub new_within : (d : Data) (kept : List Bool) (rs : List Record) (reason : Option (List ℕ)) (until : Option ℕ) → depth d ≤ max_depth
@@ -179,4 +186,6 @@ new_within d kept rs reason until shallow =
     let entries : AreWithin 125 (entries_in d) = listed_within 124 (get (codes "suppressions") d) (get_within (codes "suppressions") d 126 shallow) in
     let others : members_depth (others_in d) ≤ 126 =
     in_depth (without_member (codes "suppressions") d) 126 (let h = without_member_depth (codes "suppressions") d in omega (arith, h, shallow)) in
-    file_within _ (others_in d) 125 (both_within 125 (chosen kept (entries_in d)) (map (λ r. entry_for r reason until) rs) (chosen_within 125 kept (entries_in d) entries) (made_within rs reason until 125 (omega arith))) others
+    file_within _ (others_in d) 125
+    (both_within 125 (chosen kept (entries_in d)) (map (λ r. entry_for r reason until) rs) (chosen_within 125 kept (entries_in d) entries)
+    (made_within rs reason until 125 (omega arith))) others

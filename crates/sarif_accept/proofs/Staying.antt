@@ -15,7 +15,8 @@ use Rattle.sarif_accept.specs.Adding.{stays}
 same_numbers : (test : Entry → Bool) (n : ℕ) (es : List Entry) → is_empty (map (λ e. e.status) (filter test es)) ≡ is_empty (numbers_from test n es)
 same_numbers test n [] = refl
 same_numbers test n (e ∷ es) =
-    elim (test e) as (λ b. is_empty (map (λ e. e.status) (if b then e ∷ filter test es else filter test es)) ≡ is_empty (if b then n ∷ numbers_from test (n + 1) es else numbers_from test (n + 1) es))
+    elim (test e) as (λ b. is_empty (map (λ e. e.status) (if b then e ∷ filter test es else filter test es))
+    ≡ is_empty (if b then n ∷ numbers_from test (n + 1) es else numbers_from test (n + 1) es))
     [ true ↦ refl | false ↦ same_numbers test (n + 1) es ]
 
 both_empty : (xs ys : List Status) → is_empty (xs ++ ys) ≡ (is_empty xs && is_empty ys)
@@ -29,4 +30,5 @@ by_list (s ∷ ss) none = ap not none
 pub stays_with_some : (file : File) (r : Record) → is_suppressed file r ≡ false → stays file r ≡ not (is_empty r.held && is_empty (matching_numbers file r))
 stays_with_some file r none =
     by_list (statuses_of file r) none
-    ∙ ap not (both_empty r.held (map (λ e. e.status) (matching file r)) ∙ ap (λ b. is_empty r.held && b) (same_numbers (λ e. matches file.today e r) 0 file.entries))
+    ∙ ap not (both_empty r.held (map (λ e. e.status) (matching file r))
+    ∙ ap (λ b. is_empty r.held && b) (same_numbers (λ e. matches file.today e r) 0 file.entries))

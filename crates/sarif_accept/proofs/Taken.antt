@@ -13,11 +13,14 @@ each_value : (nodes : List (List Token)) → map (λ ts. entry_in (data_of ts)) 
 each_value [] = refl
 each_value (node ∷ nodes) = ap (λ l. entry_in (data_of node) ∷ l) (each_value nodes)
 
-pub nodes_are : (nodes : List (List Token)) (d : Data) → map data_of nodes ≡ elements_or_none (option_and_then as_array (get (codes "suppressions") d)) → map (λ ts. entry_in (data_of ts)) nodes ≡ entries_in d
+pub nodes_are : (nodes : List (List Token)) (d : Data)
+    → map data_of nodes ≡ elements_or_none (option_and_then as_array (get (codes "suppressions") d))
+    → map (λ ts. entry_in (data_of ts)) nodes ≡ entries_in d
 nodes_are nodes d are = each_value nodes ∙ ap (map entry_in) are
 
 pub chosen_of_nodes : (values : List Data) (marks : List Bool) (nodes : List (List Token)) (d : Data)
-    → values ≡ chosen marks (map (λ ts. entry_in (data_of ts)) nodes) → map data_of nodes ≡ elements_or_none (option_and_then as_array (get (codes "suppressions") d))
+    → values ≡ chosen marks (map (λ ts. entry_in (data_of ts)) nodes)
+    → map data_of nodes ≡ elements_or_none (option_and_then as_array (get (codes "suppressions") d))
     → values ≡ chosen marks (entries_in d)
 chosen_of_nodes values marks nodes d is are = is ∙ ap (chosen marks) (nodes_are nodes d are)
 

@@ -54,7 +54,8 @@ one_byte : (x : ℕ) → 1 ≤ length (escape_byte x)
 unfolding escape_byte
 one_byte x = by_tests (nat_lt 0 (escape_letter x)) (nat_lt x 32)
   where
-    by_tests : (a b : Bool) → 1 ≤ length (cond a (92 ∷ escape_letter x ∷ []) (cond b (92 ∷ 117 ∷ 48 ∷ 48 ∷ digit_char (x / 16) ∷ digit_char (x % 16) ∷ []) (x ∷ [])))
+    by_tests : (a b : Bool) → 1 ≤ length
+        (cond a (92 ∷ escape_letter x ∷ []) (cond b (92 ∷ 117 ∷ 48 ∷ 48 ∷ digit_char (x / 16) ∷ digit_char (x % 16) ∷ []) (x ∷ [])))
     by_tests true b = omega arith
     by_tests false true = omega arith
     by_tests false false = omega arith
@@ -82,7 +83,14 @@ pretty_weight s [] = omega arith
 pretty_weight s (t ∷ ts) =
     let front = separator (is_value s.0) t in
     let space = gap s.0 (begins t) (depth_at s.1 t) in
-    omega (arith, token_weight t, pretty_weight (step s t) ts, length-append (piece s t) (pretty_from (step s t) ts), length-append front (space ++ token_text t), length-append space (token_text t))
+    omega (
+      arith,
+      token_weight t,
+      pretty_weight (step s t) ts,
+      length-append (piece s t) (pretty_from (step s t) ts),
+      length-append front (space ++ token_text t),
+      length-append space (token_text t),
+    )
 
 weights-append : (xs ys : List Token) → weights (xs ++ ys) ≡ weights xs + weights ys
 unfolding weights
@@ -198,7 +206,8 @@ condition_weight c =
       | Some text ↦ λ is. rw (text_is_value c text is) (omega (arith, text_weight (Some text)))
     ] refl
 
-condition_more : (o : Option Condition) (cs : List Condition) (n : ℕ) → weight_in cs ≤ n → weight_in (with_condition o cs) ≤ some_weight (option_map value_of o) + n
+condition_more : (o : Option Condition) (cs : List Condition) (n : ℕ) → weight_in cs ≤ n
+    → weight_in (with_condition o cs) ≤ some_weight (option_map value_of o) + n
 condition_more None cs n rest = omega (arith, rest)
 condition_more (Some c) cs n rest = omega (arith, rest, condition_weight c)
 
@@ -216,7 +225,12 @@ entry_weight renewal r =
 made_weight : (renewal : Renewal) (rs : List Record) → weights_of renewal rs ≤ items_weight (items_of (map (λ r. entry_for r renewal.reason renewal.until) rs))
 made_weight renewal [] = omega arith
 made_weight renewal (r ∷ rs) =
-    omega (arith, entry_weight renewal r, made_weight renewal rs, item_more (entry_for r renewal.reason renewal.until) (items_of (map (λ r. entry_for r renewal.reason renewal.until) rs)))
+    omega (
+      arith,
+      entry_weight renewal r,
+      made_weight renewal rs,
+      item_more (entry_for r renewal.reason renewal.until) (items_of (map (λ r. entry_for r renewal.reason renewal.until) rs)),
+    )
 
 behind_weight : (xs ys : List Data) → items_weight (items_of ys) ≤ items_weight (items_of (xs ++ ys))
 behind_weight [] ys = omega arith
@@ -229,7 +243,8 @@ unfolding value_weight
 weighed d = pretty_weight (nothing, 0) (json_tokens (outline d))
 
 -- its text is as long as the strings of the entries that are added
-pub file_weight : (given : Option (List ℕ)) (kept : List Bool) (added : List Record) (renewal : Renewal) → weights_of renewal added ≤ length (file_text (renewed_file given kept added renewal))
+pub file_weight : (given : Option (List ℕ)) (kept : List Bool) (added : List Record) (renewal : Renewal)
+    → weights_of renewal added ≤ length (file_text (renewed_file given kept added renewal))
 file_weight given kept added renewal =
     let made = map (λ r. entry_for r renewal.reason renewal.until) added in
     let all = renewed_entries given kept added renewal in
@@ -237,7 +252,17 @@ file_weight given kept added renewal =
     let ms = put (codes "suppressions") (value.array (items_of all)) rest in
     let text = json_tokens (outline (value.object ms)) in
     let printed : value_weight (value.object ms) ≤ length (pretty text) = weighed (value.object ms) in
-    omega (arith, made_weight renewal added, behind_weight (chosen kept (entries_in (file_object given))) made, array_weight (items_of all), has_weight (codes "suppressions") ms (value.array (items_of all)) (get_member-put (codes "suppressions") (value.array (items_of all)) rest), object_weight ms, printed, length-append (pretty text) (10 ∷ []))
+    omega (
+      arith,
+      made_weight renewal added,
+      behind_weight (chosen kept (entries_in (file_object given))) made,
+      array_weight (items_of all),
+      has_weight (codes "suppressions") ms (value.array (items_of all))
+          (get_member-put (codes "suppressions") (value.array (items_of all)) rest),
+      object_weight ms,
+      printed,
+      length-append (pretty text) (10 ∷ []),
+    )
 
 -- ---- going through the results
 
@@ -247,5 +272,6 @@ weights_left renewal xs n r within is = rw (left_of xs n r within is) refl
 
 -- ---- going through the conditions of a result
 
-pub weight_left : (cs : List Condition) (n : ℕ) (c : Condition) → n < length cs → c ≡ slice_index_or cs n c → weight_in (drop n cs) ≡ weight_if (text_of c) + weight_in (drop (n + 1) cs)
+pub weight_left : (cs : List Condition) (n : ℕ) (c : Condition) → n < length cs → c ≡ slice_index_or cs n c
+    → weight_in (drop n cs) ≡ weight_if (text_of c) + weight_in (drop (n + 1) cs)
 weight_left cs n c within is = rw (left_of cs n c within is) refl

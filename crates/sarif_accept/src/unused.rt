@@ -137,8 +137,8 @@ fn lines_in<S: BuildHasher + Copy>(
 }
 
 /// Returns a line for each unused entry of the file, in order: its number from 0, whether it expired or matched nothing,
-/// and its text, made safe to show. `marks` are those of the entries that match a current result, and `bytes` those of
-/// which the file was read. Returns `AllocError` if memory for the text runs out.
+/// and its text, made safe to show. `marks` marks the entries that match a current result, and `bytes` are the bytes
+/// of the file. Returns `AllocError` if memory for the text runs out.
 #[tactic(auto, using(crate::proofs::Flags::no_file))]
 pub fn unused_lines<S: BuildHasher + Copy>(
     alloc: Global,

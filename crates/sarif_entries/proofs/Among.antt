@@ -12,12 +12,15 @@ any_drop test (suc n) [] t = t
 any_drop test (suc n) (x ∷ xs) t = rw (any_drop test n xs t) (or-true (test x))
 
 -- a pair that is there is passed
-pub passed : (wanted found : List (List ℕ × List ℕ)) (i : ℕ) (pair : List ℕ × List ℕ) → i < length wanted → pair ≡ get_or wanted i pair → list_any (λ p. is_pair p pair) found ≡ true → are_among (drop (i + 1) wanted) found ≡ are_among (drop i wanted) found
+pub passed : (wanted found : List (List ℕ × List ℕ)) (i : ℕ) (pair : List ℕ × List ℕ) → i < length wanted → pair ≡ get_or wanted i pair
+    → list_any (λ p. is_pair p pair) found ≡ true → are_among (drop (i + 1) wanted) found ≡ are_among (drop i wanted) found
 passed wanted found i pair within is there =
     let split : drop i wanted ≡ pair ∷ drop (i + 1) wanted = drop_more wanted i pair within ∙ ap (λ p. p ∷ drop (i + 1) wanted) (sym is) in
     rw (split, there) refl
 
 -- the same where it is in an end of those found
-pub passed_in_end : (wanted found left : List (List ℕ × List ℕ)) (i n : ℕ) (pair : List ℕ × List ℕ) → i < length wanted → pair ≡ get_or wanted i pair → left ≡ drop n found → list_any (λ p. is_pair p pair) left ≡ true → are_among (drop (i + 1) wanted) found ≡ are_among (drop i wanted) found
+pub passed_in_end : (wanted found left : List (List ℕ × List ℕ)) (i n : ℕ) (pair : List ℕ × List ℕ) → i < length wanted
+    → pair ≡ get_or wanted i pair → left ≡ drop n found → list_any (λ p. is_pair p pair) left ≡ true
+    → are_among (drop (i + 1) wanted) found ≡ are_among (drop i wanted) found
 passed_in_end wanted found left i n pair within is end there =
     passed wanted found i pair within is (any_drop (λ p. is_pair p pair) n found (rw end at there))

@@ -34,7 +34,8 @@ text_means None (Some b) = (λ t. absurd (false≢true t), λ e. cc)
 text_means (Some a) None = (λ t. absurd (false≢true t), λ e. cc)
 text_means (Some a) (Some b) = (λ t. ap Some ((bytes_eq-Decides a b).0 t), λ e. (bytes_eq-Decides a b).1 cc)
 
-same_texts : (j i : Option (Bor (List ℕ))) → option_eq (λ a b. bytes_eq a.now b.now) j i ≡ option_eq bytes_eq (option_map (λ text. text.now) j) (option_map (λ text. text.now) i)
+same_texts : (j i : Option (Bor (List ℕ)))
+    → option_eq (λ a b. bytes_eq a.now b.now) j i ≡ option_eq bytes_eq (option_map (λ text. text.now) j) (option_map (λ text. text.now) i)
 same_texts None None = refl
 same_texts None (Some b) = refl
 same_texts (Some a) None = refl
@@ -88,7 +89,8 @@ pub no_status : (q : EntryKey) (d : Data) → status_in d ≡ None → has_key q
 no_status q d none = false_from_ne_true _ (λ t. let found : status_in d ≡ Some q.status = (reads q d t).0 in cc)
 
 -- if the value lacks the key that is read, it has no key
-pub no_other : (k q : EntryKey) (d : Data) → status_in d ≡ Some k.status → text_in (codes "justification") d ≡ justification_of k → has_key k d ≡ false → has_key q d ≡ false
+pub no_other : (k q : EntryKey) (d : Data) → status_in d ≡ Some k.status → text_in (codes "justification") d ≡ justification_of k
+    → has_key k d ≡ false → has_key q d ≡ false
 no_other k q d status text unlike = false_from_ne_true _ (λ t.
     let there : (status_in d ≡ Some q.status) × (text_in (codes "justification") d ≡ justification_of q) = reads q d t in
     let one : k.status ≡ q.status = cc in

@@ -51,7 +51,8 @@ texts_mean wanted found =
 
 pub pair_means : (a b : List ℕ × List ℕ) → Decides (is_pair a b) (a ≡ b)
 pair_means a b =
-    Decides-like (is_pair a b) (λ h. pair_from a b h.0 h.1) (λ e. (ap (λ p. p.0) e, ap (λ p. p.1) e)) (Decides-and _ _ (bytes_eq-Decides a.0 b.0) (bytes_eq-Decides a.1 b.1))
+    Decides-like (is_pair a b) (λ h. pair_from a b h.0 h.1) (λ e. (ap (λ p. p.0) e, ap (λ p. p.1) e))
+    (Decides-and _ _ (bytes_eq-Decides a.0 b.0) (bytes_eq-Decides a.1 b.1))
   where
     pair_from : (a b : List ℕ × List ℕ) → a.0 ≡ b.0 → a.1 ≡ b.1 → a ≡ b
     pair_from a b e f = λ i. (e i, f i)
@@ -69,8 +70,11 @@ among_found (p ∷ ps) pair (suc k, within, is) =
 
 among_means : (wanted found : List (List ℕ × List ℕ)) → Decides (are_among wanted found) ((pair : List ℕ × List ℕ) → Contains wanted pair → Contains found pair)
 among_means wanted found =
-    let each : Decides (are_among wanted found) (All (Contains found) wanted) = Decides-by_and (λ pair. list_any (λ p. is_pair p pair) found) (Contains found) (λ ps. are_among ps found) (λ pair. (found_among found pair, among_found found pair)) refl (λ _ _. refl) wanted in
-    Decides-like (are_among wanted found) (λ all pair is. All-contains (Contains found) wanted pair all is) (λ h k d within. h _ (Contains-get_or wanted k d within)) each
+    let each : Decides (are_among wanted found) (All (Contains found) wanted) =
+    Decides-by_and (λ pair. list_any (λ p. is_pair p pair) found) (Contains found) (λ ps. are_among ps found)
+    (λ pair. (found_among found pair, among_found found pair)) refl (λ _ _. refl) wanted in
+    Decides-like (are_among wanted found) (λ all pair is. All-contains (Contains found) wanted pair all is)
+    (λ h k d within. h _ (Contains-get_or wanted k d within)) each
 
 -- the test of a condition decides it
 pub holds_means : (c : Condition) (r : Record) → Decides (holds c r) (Holds c r)
@@ -88,7 +92,8 @@ holds_means (MessageArguments texts) r = texts_mean texts r.message.args
 -- all conditions
 pub meets : (cs : List Condition) (r : Record) → Decides (hold cs r) (Meets cs r)
 meets cs r =
-    let each : Decides (hold cs r) (All (λ c. Holds c r) cs) = Decides-by_and (λ c. holds c r) (λ c. Holds c r) (λ cs. hold cs r) (λ c. holds_means c r) refl (λ _ _. refl) cs in
+    let each : Decides (hold cs r) (All (λ c. Holds c r) cs) =
+    Decides-by_and (λ c. holds c r) (λ c. Holds c r) (λ cs. hold cs r) (λ c. holds_means c r) refl (λ _ _. refl) cs in
     Decides-like (hold cs r) (λ all c is. All-contains (λ c. Holds c r) cs c all is) (λ h k d within. h _ (Contains-get_or cs k d within)) each
 
 in_time : (today expires : Option ℕ) → Decides (not (is_past today expires)) ((last day : ℕ) → expires ≡ Some last → today ≡ Some day → day ≤ last)

@@ -39,7 +39,8 @@ in_right : (own : List (List ℕ)) (a b : List (List (List ℕ))) → is_in own 
 in_right own a b is =
     list_any-append (λ key. pointwise bytes_eq own key) a b ∙ or_right (is_in own a) (is_in own b) is
 
-in_under : (uri head : Option (List ℕ)) (wanted args : List (List ℕ)) → are_wanted wanted args ≡ true → is_in (key_of uri head wanted) (keys_under uri head args) ≡ true
+in_under : (uri head : Option (List ℕ)) (wanted args : List (List ℕ)) → are_wanted wanted args ≡ true
+    → is_in (key_of uri head wanted) (keys_under uri head args) ≡ true
 in_under uri head [] args t =
     or_left (pointwise bytes_eq (key_of uri head []) (key_of uri head [])) _ (itself (key_of uri head []))
 in_under uri head (w ∷ ws) [] t = absurd (false≢true t)
@@ -49,7 +50,8 @@ in_under uri head (w ∷ ws) (a ∷ args) t =
     ap (λ wanted. is_in (key_of uri head wanted) (keys_under uri head (a ∷ args))) same
     ∙ or_right (pointwise bytes_eq own (key_of uri head [])) _ (or_left (pointwise bytes_eq own own) false (itself own))
 
-in_args : (uri : Option (List ℕ)) (w : List ℕ) (ws args : List (List ℕ)) → are_wanted (w ∷ ws) args ≡ true → is_in (key_of uri None (w ∷ ws)) (if is_empty args then [] else key_of uri None args ∷ []) ≡ true
+in_args : (uri : Option (List ℕ)) (w : List ℕ) (ws args : List (List ℕ)) → are_wanted (w ∷ ws) args ≡ true
+    → is_in (key_of uri None (w ∷ ws)) (if is_empty args then [] else key_of uri None args ∷ []) ≡ true
 in_args uri w ws [] t = absurd (false≢true t)
 in_args uri w ws (a ∷ args) t =
     let same : w ∷ ws ≡ a ∷ args = (key-Decides (w ∷ ws) (a ∷ args)).0 t in
@@ -60,31 +62,42 @@ in_args uri w ws (a ∷ args) t =
 -- the keys for a message's string, for its id, and for arguments alone
 abbrev parts : Option (List ℕ) → Option (List ℕ) → Option (List ℕ) → List (List ℕ) → List (List (List ℕ))
 parts uri text id args =
-    ((if is_some text then keys_under uri text args else []) ++ (if is_some id then keys_under uri id args else [])) ++ (if is_empty args then [] else key_of uri None args ∷ [])
+    ((if is_some text then keys_under uri text args else []) ++ (if is_some id then keys_under uri id args else []))
+    ++ (if is_empty args then [] else key_of uri None args ∷ [])
 
 -- something of the message is required
 abbrev is_named : Option (List ℕ) → Option (List ℕ) → List (List ℕ) → Bool
 is_named text id args = not (is_none text && (is_none id && is_empty args))
 
-in_parts : (uri wanted_text wanted_id text id : Option (List ℕ)) (wanted args : List (List ℕ)) → is_there wanted_text text ≡ true → is_there wanted_id id ≡ true → are_wanted wanted args ≡ true → is_named wanted_text wanted_id wanted ≡ true → is_in (key_of uri (if is_some wanted_text then wanted_text else wanted_id) wanted) (parts uri text id args) ≡ true
+in_parts : (uri wanted_text wanted_id text id : Option (List ℕ)) (wanted args : List (List ℕ)) → is_there wanted_text text ≡ true
+    → is_there wanted_id id ≡ true → are_wanted wanted args ≡ true → is_named wanted_text wanted_id wanted ≡ true
+    → is_in (key_of uri (if is_some wanted_text then wanted_text else wanted_id) wanted) (parts uri text id args) ≡ true
 in_parts uri (Some w) wanted_id None id wanted args t _ a _ = absurd (false≢true t)
 in_parts uri (Some w) wanted_id (Some text) id wanted args t _ a _ =
     let same : w ≡ text = (bytes_eq-Decides w text).0 t in
     let own : List (List ℕ) = key_of uri (Some text) wanted in
     ap (λ word. is_in (key_of uri (Some word) wanted) (parts uri (Some text) id args)) same
-    ∙ in_left own (keys_under uri (Some text) args ++ (if is_some id then keys_under uri id args else [])) _ (in_left own (keys_under uri (Some text) args) _ (in_under uri (Some text) wanted args a))
+    ∙ in_left own (keys_under uri (Some text) args ++ (if is_some id then keys_under uri id args else [])) _
+    (in_left own (keys_under uri (Some text) args) _ (in_under uri (Some text) wanted args a))
 in_parts uri None (Some w) text None wanted args _ t a _ = absurd (false≢true t)
 in_parts uri None (Some w) text (Some id) wanted args _ t a _ =
     let same : w ≡ id = (bytes_eq-Decides w id).0 t in
     let own : List (List ℕ) = key_of uri (Some id) wanted in
     ap (λ word. is_in (key_of uri (Some word) wanted) (parts uri text (Some id) args)) same
-    ∙ in_left own ((if is_some text then keys_under uri text args else []) ++ keys_under uri (Some id) args) _ (in_right own (if is_some text then keys_under uri text args else []) (keys_under uri (Some id) args) (in_under uri (Some id) wanted args a))
+    ∙ in_left own ((if is_some text then keys_under uri text args else []) ++ keys_under uri (Some id) args) _
+    (in_right own (if is_some text then keys_under uri text args else []) (keys_under uri (Some id) args)
+    (in_under uri (Some id) wanted args a))
 in_parts uri None None text id [] args _ _ _ t = absurd (false≢true t)
 in_parts uri None None text id (w ∷ ws) args _ _ a _ =
-    in_right (key_of uri None (w ∷ ws)) ((if is_some text then keys_under uri text args else []) ++ (if is_some id then keys_under uri id args else [])) _ (in_args uri w ws args a)
+    in_right (key_of uri None (w ∷ ws))
+    ((if is_some text then keys_under uri text args else []) ++ (if is_some id then keys_under uri id args else [])) _
+    (in_args uri w ws args a)
 
 -- the key for these conditions is among those of a result that meets them
-pub in_message_keys : (r : Record) (wanted_uri wanted_text wanted_id : Option (List ℕ)) (wanted : List (List ℕ)) → is_there wanted_uri r.place.uri ≡ true → is_there wanted_text r.message.text ≡ true → is_there wanted_id r.message.id ≡ true → are_wanted wanted r.message.args ≡ true → is_named wanted_text wanted_id wanted ≡ true → is_in (key_of wanted_uri (if is_some wanted_text then wanted_text else wanted_id) wanted) (message_keys r) ≡ true
+pub in_message_keys : (r : Record) (wanted_uri wanted_text wanted_id : Option (List ℕ)) (wanted : List (List ℕ))
+    → is_there wanted_uri r.place.uri ≡ true → is_there wanted_text r.message.text ≡ true → is_there wanted_id r.message.id ≡ true
+    → are_wanted wanted r.message.args ≡ true → is_named wanted_text wanted_id wanted ≡ true
+    → is_in (key_of wanted_uri (if is_some wanted_text then wanted_text else wanted_id) wanted) (message_keys r) ≡ true
 in_message_keys r wanted_uri wanted_text wanted_id wanted u t i a named = with_uri wanted_uri r.place.uri u
   where
     head : Option (List ℕ)
@@ -94,7 +107,8 @@ in_message_keys r wanted_uri wanted_text wanted_id wanted u t i a named = with_u
     at uri =
         in_parts uri wanted_text wanted_id r.message.text r.message.id wanted r.message.args t i a named
 
-    with_uri : (wanted_uri uri : Option (List ℕ)) → is_there wanted_uri uri ≡ true → is_in (key_of wanted_uri head wanted) (keys_at None r.message ++ (if is_some uri then keys_at uri r.message else [])) ≡ true
+    with_uri : (wanted_uri uri : Option (List ℕ)) → is_there wanted_uri uri ≡ true
+        → is_in (key_of wanted_uri head wanted) (keys_at None r.message ++ (if is_some uri then keys_at uri r.message else [])) ≡ true
     with_uri None uri u = in_left (key_of None head wanted) (keys_at None r.message) _ (at None)
     with_uri (Some w) None u = absurd (false≢true u)
     with_uri (Some w) (Some uri) u =

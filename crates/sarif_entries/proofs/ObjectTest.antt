@@ -31,7 +31,8 @@ just_means [] no_members = (λ _. refl, λ _. refl)
 just_means [] (member name d ms) = (λ t. absurd (false≢true t), λ e. cc)
 just_means (p ∷ ps) no_members = (λ t. absurd (false≢true t), λ e. cc)
 just_means (p ∷ ps) (member name d ms) =
-    let each : Decides (are_just (p ∷ ps) (member name d ms)) ((p.0 ≡ name) × (d ≡ string p.1) × (ms ≡ text_members ps)) = and_all _ _ _ (bytes_eq-Decides p.0 name) (string_means p.1 d) (just_means ps ms) in
+    let each : Decides (are_just (p ∷ ps) (member name d ms)) ((p.0 ≡ name) × (d ≡ string p.1) × (ms ≡ text_members ps)) =
+    and_all _ _ _ (bytes_eq-Decides p.0 name) (string_means p.1 d) (just_means ps ms) in
     (λ t. let h : (p.0 ≡ name) × (d ≡ string p.1) × (ms ≡ text_members ps) = each.0 t in cc, λ e. each.1 (cc, cc, cc))
 
 -- a value is tested for exactly these strings
@@ -49,4 +50,7 @@ object_means e d = texts_mean (texts_of e) d
 
 -- the object of an entry holds no number with a fraction
 pub object_float : (e : Entry) → has_float (object_of e) ≡ false
-object_float e = elim e.justification as (λ j. members_have_float (text_members (with_pair (codes "justification") j ((codes "kind", codes "external") ∷ (codes "status", status_name e.status) ∷ []))) ≡ false) [ None ↦ refl | Some text ↦ refl ]
+object_float e = elim e.justification as
+    (λ j. members_have_float
+    (text_members (with_pair (codes "justification") j ((codes "kind", codes "external") ∷ (codes "status", status_name e.status) ∷ [])))
+    ≡ false) [ None ↦ refl | Some text ↦ refl ]

@@ -196,7 +196,7 @@ impl Entry {
         }
     }
 
-    /// Returns whether the entry is filed nowhere.
+    /// Returns whether the entry has no key, so that it is not filed under any.
     pub fn has_no_key(&self) -> bool
         ensures { result ≡ said.has_no_key self.now.conditions }
     {

@@ -23,7 +23,8 @@ shortened-cons room c cs = refl
 pub ends_short : (kept text left whole : List ℕ) (c room : ℕ) → IsUtf8 text → text ≡ encode_utf8 c ++ left
     → room ≡ 0 → kept ++ shortened room (chars text) ≡ whole → kept ++ codes "..." ≡ whole
 ends_short kept text left whole c room utf8 parts none held =
-    let e : shortened room (chars text) ≡ codes "..." = ap (λ n. shortened n (chars text)) none ∙ ap (shortened 0) (chars_past_char text left c utf8 parts) ∙ shortened-full c (chars left) in
+    let e : shortened room (chars text) ≡ codes "..." = ap (λ n. shortened n (chars text)) none
+    ∙ ap (shortened 0) (chars_past_char text left c utf8 parts) ∙ shortened-full c (chars left) in
     ap (λ xs. kept ++ xs) (sym e) ∙ held
 
 -- there is
@@ -31,7 +32,9 @@ pub keeps_one : (kept text left whole : List ℕ) (c room : ℕ) → IsUtf8 text
     → (room ≡ 0 → ⊥) → kept ++ shortened room (chars text) ≡ whole
     → (kept ++ encode_utf8 c) ++ shortened (room - 1) (chars left) ≡ whole
 keeps_one kept text left whole c room utf8 parts some held =
-    let e : shortened room (chars text) ≡ encode_utf8 c ++ shortened (room - 1) (chars left) = ap (λ n. shortened n (chars text)) (one_less room some) ∙ ap (shortened (suc (room - 1))) (chars_past_char text left c utf8 parts) ∙ shortened-cons (room - 1) c (chars left) in
+    let e : shortened room (chars text) ≡ encode_utf8 c ++ shortened (room - 1) (chars left) =
+    ap (λ n. shortened n (chars text)) (one_less room some) ∙ ap (shortened (suc (room - 1))) (chars_past_char text left c utf8 parts)
+    ∙ shortened-cons (room - 1) c (chars left) in
     append_assoc kept (encode_utf8 c) (shortened (room - 1) (chars left)) ∙ ap (λ xs. kept ++ xs) (sym e) ∙ held
 
 -- the text is at its end

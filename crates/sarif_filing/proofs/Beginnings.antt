@@ -8,7 +8,8 @@ use Rattle.sarif_filing.specs.declared.prefixes.PrefixTable.{PrefixTable}
 use Rattle.sarif_filing.specs.Internal.Prefixes.{beginnings, next_hash, hash_of, found_with, found_under}
 
 -- the hash of the bytes so far, with one more byte
-pub hash_step : (base hash next : ℕ) (text : List ℕ) (i d : ℕ) → i < length text → hash ≡ hash_of base (take i text) → next ≡ next_hash base hash (get_or text i d) → next ≡ hash_of base (take (i + 1) text)
+pub hash_step : (base hash next : ℕ) (text : List ℕ) (i d : ℕ) → i < length text → hash ≡ hash_of base (take i text)
+    → next ≡ next_hash base hash (get_or text i d) → next ≡ hash_of base (take (i + 1) text)
 hash_step base hash next text i d within so_far is =
     rw (take_more text i d within, fold-append, is, so_far) refl
 
@@ -28,11 +29,14 @@ more_beginnings text i d within =
     rw (take_more text i d within) (one_longer (take i text) (get_or text i d))
 
 -- what is found for the beginnings gone through, with one more
-pub found_step : {S H : Type 0} (table : PrefixTable S H) (start old new text : List ℕ) (i next d : ℕ) → i < length text → next ≡ hash_of table.base (take (i + 1) text) → old ≡ start ++ flat_map (found_under table) (beginnings (take i text)) → new ≡ old ++ found_with table (i + 1) next → new ≡ start ++ flat_map (found_under table) (beginnings (take (i + 1) text))
+pub found_step : {S H : Type 0} (table : PrefixTable S H) (start old new text : List ℕ) (i next d : ℕ) → i < length text
+    → next ≡ hash_of table.base (take (i + 1) text) → old ≡ start ++ flat_map (found_under table) (beginnings (take i text))
+    → new ≡ old ++ found_with table (i + 1) next → new ≡ start ++ flat_map (found_under table) (beginnings (take (i + 1) text))
 found_step table start old new text i next d within hash so_far added =
     let long : i + 1 ≤ length text = omega (arith, within) in
     let here : found_with table (i + 1) next ≡ found_under table (take (i + 1) text) = rw (length-take-le (i + 1) text long, hash) refl in
-    let last : flat_map (found_under table) (take (i + 1) text ∷ []) ≡ found_under table (take (i + 1) text) = append-nil (found_under table (take (i + 1) text)) in
+    let last : flat_map (found_under table) (take (i + 1) text ∷ []) ≡ found_under table (take (i + 1) text) =
+    append-nil (found_under table (take (i + 1) text)) in
     added
     ∙ rw (so_far, here) (append_assoc start (flat_map (found_under table) (beginnings (take i text))) (found_under table (take (i + 1) text)))
     ∙ sym (ap (λ ts. start ++ flat_map (found_under table) ts) (more_beginnings text i d within)

@@ -21,13 +21,15 @@ self : (n : ℕ) → nat_eq n n ≡ true
 self n = grind (arith, nat_tests)
 
 -- what is filed under a string is found for each string that begins with it
-under_beginning : (n : ℕ) (under : List ℕ → List ℕ) (prefix rest : List ℕ) → has n (under prefix) ≡ true → has n (flat_map under (beginnings (prefix ++ rest))) ≡ true
+under_beginning : (n : ℕ) (under : List ℕ → List ℕ) (prefix rest : List ℕ) → has n (under prefix) ≡ true
+    → has n (flat_map under (beginnings (prefix ++ rest))) ≡ true
 under_beginning n under [] [] found =
     list_any-append (λ m. nat_eq m n) (under []) [] ∙ or_left (has n (under [])) false found
 under_beginning n under [] (b ∷ rest) found =
     list_any-append (λ m. nat_eq m n) (under []) (flat_map under (map (λ front. b ∷ front) (beginnings rest))) ∙ or_left (has n (under [])) _ found
 under_beginning n under (b ∷ prefix) rest found =
-    let later : has n (flat_map (λ front. under (b ∷ front)) (beginnings (prefix ++ rest))) ≡ true = under_beginning n (λ front. under (b ∷ front)) prefix rest found in
+    let later : has n (flat_map (λ front. under (b ∷ front)) (beginnings (prefix ++ rest))) ≡ true =
+    under_beginning n (λ front. under (b ∷ front)) prefix rest found in
     list_any-append (λ m. nat_eq m n) (under []) (flat_map under (map (λ front. b ∷ front) (beginnings (prefix ++ rest))))
     ∙ or_right (has n (under [])) _ (ap (has n) (flat_map-map under (λ front. b ∷ front) (beginnings (prefix ++ rest))) ∙ later)
 
@@ -46,21 +48,26 @@ listed_within lengths n listed =
 
 module _ {S H : Type 0} (entries : List Entry) (table : PrefixTable S H) (n : ℕ) (e : Entry) (prefix : List ℕ) where
   -- the entry's length is marked, and its number is filed under its hash
-  under_its_own : IsPrefixTable entries table → slice_get entries n ≡ Some e → prefix_key e.conditions ≡ Some prefix → (is_listed table.lengths.items (length prefix) ≡ true) × (has n (found_under table prefix) ≡ true)
+  under_its_own : IsPrefixTable entries table → slice_get entries n ≡ Some e → prefix_key e.conditions ≡ Some prefix
+      → (is_listed table.lengths.items (length prefix) ≡ true) × (has n (found_under table prefix) ≡ true)
   under_its_own is at key =
       let hash : ℕ = hash_of table.base prefix in
       let has_its : has_length (length prefix) e ≡ true = rw key (self (length prefix)) in
-      let listed : is_listed table.lengths.items (length prefix) ≡ true = is.lengths (length prefix) ∙ any_at (has_length (length prefix)) entries n e at has_its in
+      let listed : is_listed table.lengths.items (length prefix) ≡ true = is.lengths (length prefix)
+      ∙ any_at (has_length (length prefix)) entries n e at has_its in
       let asks : asks_for_hash table.base hash e ≡ true = rw key (self hash) in
-      let under : has n (numbers_at nat_eq table.by_hash hash) ≡ true = ap (has n) (is.hashes hash) ∙ has_from (asks_for_hash table.base hash) 0 n n entries e (omega arith) at ∙ asks in
+      let under : has n (numbers_at nat_eq table.by_hash hash) ≡ true = ap (has n) (is.hashes hash)
+      ∙ has_from (asks_for_hash table.base hash) 0 n n entries e (omega arith) at ∙ asks in
       (listed, ap (λ b. has n (if b then numbers_at nat_eq table.by_hash hash else [])) listed ∙ under)
 
-  cut : (rest : List ℕ) → length prefix < length table.lengths.items → take (length table.lengths.items) (prefix ++ rest) ≡ prefix ++ take (length table.lengths.items - length prefix) rest
+  cut : (rest : List ℕ) → length prefix < length table.lengths.items
+      → take (length table.lengths.items) (prefix ++ rest) ≡ prefix ++ take (length table.lengths.items - length prefix) rest
   cut rest within =
       let sum : length table.lengths.items ≡ length prefix + (length table.lengths.items - length prefix) = omega (arith, within) in
       ap (λ k. take k (prefix ++ rest)) sum ∙ take-append-add prefix rest (length table.lengths.items - length prefix)
 
-  pub found_begun : (uri : Option (List ℕ)) → IsPrefixTable entries table → slice_get entries n ≡ Some e → prefix_key e.conditions ≡ Some prefix → begins prefix uri ≡ true → has n (option_map_or (found_for table) uri []) ≡ true
+  pub found_begun : (uri : Option (List ℕ)) → IsPrefixTable entries table → slice_get entries n ≡ Some e
+      → prefix_key e.conditions ≡ Some prefix → begins prefix uri ≡ true → has n (option_map_or (found_for table) uri []) ≡ true
   found_begun uri is at key begun =
       let means : (rest : List ℕ) × (uri ≡ Some (prefix ++ rest)) = (begins_means prefix uri).0 begun in
       let own : (is_listed table.lengths.items (length prefix) ≡ true) × (has n (found_under table prefix) ≡ true) = under_its_own is at key in

@@ -42,22 +42,48 @@ nested a b c d e f g h =
     rw (append_assoc, append_assoc, append_assoc, append_assoc, append_assoc, append_assoc) refl
 
 -- what the tables have for a result
-pub from_tables : {S H : Type 0} (entries : List Entry) (table : Table S H) (r : Record) → IsTable entries table → ((((((option_map_or (numbers_at nat_eq table.guids) r.guid [] ++ flat_map (numbers_at is_pair table.pairs.full) r.full) ++ flat_map (numbers_at is_pair table.pairs.partial) r.partial) ++ flat_map (numbers_at (pointwise bytes_eq) table.texts.messages) (message_keys r)) ++ option_map_or (numbers_at bytes_eq table.texts.uris) r.place.uri []) ++ numbers_at bytes_eq table.texts.rules r.rule_id) ++ numbers_at bytes_eq table.texts.tools r.tool) ++ table.others.items ≡ candidates entries r
+pub from_tables : {S H : Type 0} (entries : List Entry) (table : Table S H) (r : Record) → IsTable entries table
+    →
+    ((((((option_map_or (numbers_at nat_eq table.guids) r.guid [] ++ flat_map (numbers_at is_pair table.pairs.full) r.full)
+    ++ flat_map (numbers_at is_pair table.pairs.partial) r.partial)
+    ++ flat_map (numbers_at (pointwise bytes_eq) table.texts.messages) (message_keys r))
+    ++ option_map_or (numbers_at bytes_eq table.texts.uris) r.place.uri []) ++ numbers_at bytes_eq table.texts.rules r.rule_id)
+    ++ numbers_at bytes_eq table.texts.tools r.tool) ++ table.others.items ≡ candidates entries r
 from_tables entries table r is =
-    nested (option_map_or (numbers_at nat_eq table.guids) r.guid []) (flat_map (numbers_at is_pair table.pairs.full) r.full) (flat_map (numbers_at is_pair table.pairs.partial) r.partial) (flat_map (numbers_at (pointwise bytes_eq) table.texts.messages) (message_keys r)) (option_map_or (numbers_at bytes_eq table.texts.uris) r.place.uri []) (numbers_at bytes_eq table.texts.rules r.rule_id) (numbers_at bytes_eq table.texts.tools r.tool) table.others.items
-    ∙ rw (there_same _ _ r.guid is.guids, flat_same _ _ r.full is.pairs.full, flat_same _ _ r.partial is.pairs.partial, flat_same _ _ (message_keys r) is.texts.messages, there_same _ _ r.place.uri is.texts.uris, is.texts.rules r.rule_id, is.texts.tools r.tool, is.rest) refl
+    nested (option_map_or (numbers_at nat_eq table.guids) r.guid []) (flat_map (numbers_at is_pair table.pairs.full) r.full)
+    (flat_map (numbers_at is_pair table.pairs.partial) r.partial)
+    (flat_map (numbers_at (pointwise bytes_eq) table.texts.messages) (message_keys r))
+    (option_map_or (numbers_at bytes_eq table.texts.uris) r.place.uri []) (numbers_at bytes_eq table.texts.rules r.rule_id)
+    (numbers_at bytes_eq table.texts.tools r.tool) table.others.items
+    ∙ rw (
+      there_same _ _ r.guid is.guids,
+      flat_same _ _ r.full is.pairs.full,
+      flat_same _ _ r.partial is.pairs.partial,
+      flat_same _ _ (message_keys r) is.texts.messages,
+      there_same _ _ r.place.uri is.texts.uris,
+      is.texts.rules r.rule_id,
+      is.texts.tools r.tool,
+      is.rest,
+    ) refl
 
 -- the result has what the entry is filed under
 abbrev is_asked : Entry → Record → Bool
 is_asked e r =
-    option_map_or (λ guid. asks_for_guid guid e) r.guid false || (list_any (λ pair. asks_for_pair Full pair e) r.full || (list_any (λ pair. asks_for_pair Partial pair e) r.partial || (list_any (λ key. asks_for_message key e) (message_keys r) || (option_map_or (λ uri. asks_for_text Uri uri e) r.place.uri false || (asks_for_text RuleId r.rule_id e || (asks_for_text Tool r.tool e || asks_for_none e))))))
+    option_map_or (λ guid. asks_for_guid guid e) r.guid false
+    || (list_any (λ pair. asks_for_pair Full pair e) r.full
+    || (list_any (λ pair. asks_for_pair Partial pair e) r.partial
+    || (list_any (λ key. asks_for_message key e) (message_keys r)
+    || (option_map_or (λ uri. asks_for_text Uri uri e) r.place.uri false
+    || (asks_for_text RuleId r.rule_id e || (asks_for_text Tool r.tool e || asks_for_none e))))))
 
-has_flat : {K : Type 0} (n : ℕ) (under : K → List ℕ) (test : K → Bool) (ks : List K) → ((k : K) → has n (under k) ≡ test k) → has n (flat_map under ks) ≡ list_any test ks
+has_flat : {K : Type 0} (n : ℕ) (under : K → List ℕ) (test : K → Bool) (ks : List K) → ((k : K) → has n (under k) ≡ test k)
+    → has n (flat_map under ks) ≡ list_any test ks
 has_flat n under test [] is = refl
 has_flat n under test (k ∷ ks) is =
     list_any-append (λ m. nat_eq m n) (under k) (flat_map under ks) ∙ rw (is k, has_flat n under test ks is) refl
 
-has_there : {K : Type 0} (n : ℕ) (under : K → List ℕ) (test : K → Bool) (o : Option K) → ((k : K) → has n (under k) ≡ test k) → has n (option_map_or under o []) ≡ option_map_or test o false
+has_there : {K : Type 0} (n : ℕ) (under : K → List ℕ) (test : K → Bool) (o : Option K) → ((k : K) → has n (under k) ≡ test k)
+    → has n (option_map_or under o []) ≡ option_map_or test o false
 has_there n under test None is = refl
 has_there n under test (Some k) is = is k
 
@@ -65,7 +91,20 @@ has_candidates : (es : List Entry) (r : Record) (n : ℕ) (e : Entry) → slice_
 has_candidates es r n e is =
     let at : (test : Entry → Bool) → has n (numbers_from test 0 es) ≡ test e = λ test. has_from test 0 n n es e (omega arith) is in
     rw (list_any-append, list_any-append, list_any-append, list_any-append, list_any-append, list_any-append, list_any-append)
-    (rw (has_there n (λ guid. numbers_from (asks_for_guid guid) 0 es) (λ guid. asks_for_guid guid e) r.guid (λ guid. at (asks_for_guid guid)), has_flat n (λ pair. numbers_from (asks_for_pair Full pair) 0 es) (λ pair. asks_for_pair Full pair e) r.full (λ pair. at (asks_for_pair Full pair)), has_flat n (λ pair. numbers_from (asks_for_pair Partial pair) 0 es) (λ pair. asks_for_pair Partial pair e) r.partial (λ pair. at (asks_for_pair Partial pair)), has_flat n (λ key. numbers_from (asks_for_message key) 0 es) (λ key. asks_for_message key e) (message_keys r) (λ key. at (asks_for_message key)), has_there n (λ uri. numbers_from (asks_for_text Uri uri) 0 es) (λ uri. asks_for_text Uri uri e) r.place.uri (λ uri. at (asks_for_text Uri uri)), at (asks_for_text RuleId r.rule_id), at (asks_for_text Tool r.tool), at asks_for_none) refl)
+    (rw (
+      has_there n (λ guid. numbers_from (asks_for_guid guid) 0 es) (λ guid. asks_for_guid guid e) r.guid (λ guid. at (asks_for_guid guid)),
+      has_flat n (λ pair. numbers_from (asks_for_pair Full pair) 0 es) (λ pair. asks_for_pair Full pair e) r.full
+          (λ pair. at (asks_for_pair Full pair)),
+      has_flat n (λ pair. numbers_from (asks_for_pair Partial pair) 0 es) (λ pair. asks_for_pair Partial pair e) r.partial
+          (λ pair. at (asks_for_pair Partial pair)),
+      has_flat n (λ key. numbers_from (asks_for_message key) 0 es) (λ key. asks_for_message key e) (message_keys r)
+          (λ key. at (asks_for_message key)),
+      has_there n (λ uri. numbers_from (asks_for_text Uri uri) 0 es) (λ uri. asks_for_text Uri uri e) r.place.uri
+          (λ uri. at (asks_for_text Uri uri)),
+      at (asks_for_text RuleId r.rule_id),
+      at (asks_for_text Tool r.tool),
+      at asks_for_none,
+    ) refl)
 
 -- ---- an entry that matches is filed under what the result has
 
@@ -103,7 +142,8 @@ record Parts (g : Option ℕ) (f p : List (List ℕ × List ℕ)) (m u ru px t i
 
 -- a test of the condition of a kind that is true if there is none, and for each that is true for the result
 module _ (r : Record) where
-  first_holds : (kind : ConditionKind) (test : Option Condition → Bool) → test None ≡ true → ((c : Condition) → is_kind (kind_of c) kind ≡ true → holds c r ≡ true → test (Some c) ≡ true)
+  first_holds : (kind : ConditionKind) (test : Option Condition → Bool) → test None ≡ true
+      → ((c : Condition) → is_kind (kind_of c) kind ≡ true → holds c r ≡ true → test (Some c) ≡ true)
       → (cs : List Condition) → hold cs r ≡ true → test (of_kind kind cs) ≡ true
   first_holds kind test none each [] all = none
   first_holds kind test none each (c ∷ cs) all =
@@ -184,7 +224,10 @@ module _ (r : Record) where
   args_holds (condition.MessageArguments (w ∷ ws)) is h = h
   args_holds c is h = absurd (false≢true is)
 
-  parts_of : (cs : List Condition) → hold cs r ≡ true → Parts (guid_in cs) (pairs_in kinds.Fingerprints cs) (pairs_in kinds.PartialFingerprints cs) (text_in kinds.Message cs) (text_in kinds.Uri cs) (text_in kinds.RuleId cs) (text_in kinds.UriPrefix cs) (text_in kinds.Tool cs) (text_in kinds.MessageId cs) (args_in cs) r
+  parts_of : (cs : List Condition) → hold cs r ≡ true
+      → Parts (guid_in cs) (pairs_in kinds.Fingerprints cs) (pairs_in kinds.PartialFingerprints cs) (text_in kinds.Message cs)
+      (text_in kinds.Uri cs) (text_in kinds.RuleId cs) (text_in kinds.UriPrefix cs) (text_in kinds.Tool cs)
+      (text_in kinds.MessageId cs) (args_in cs) r
   parts_of cs all = record {
     guid = first_holds kinds.Guid guid_test refl guid_holds cs all;
     full = first_holds kinds.Fingerprints full_test refl full_holds cs all;
@@ -263,38 +306,83 @@ module _ (e : Entry) (r : Record) (begun : Bool) where
   by_tool = asks_for_text Tool r.tool e
 
   -- an entry whose prefix is found if the URI begins with it is filed under a value of the result
-  is_filed : (g : Option ℕ) (f p : List (List ℕ × List ℕ)) (m u ru px t i : Option (List ℕ)) (ws : List (List ℕ)) → Names e.conditions g f p m u ru px t i ws → Parts g f p m u ru px t i ws r → ((prefix : List ℕ) → prefix_key e.conditions ≡ Some prefix → begins prefix r.place.uri ≡ true → begun ≡ true) → (is_asked e r || begun) ≡ true
+  is_filed : (g : Option ℕ) (f p : List (List ℕ × List ℕ)) (m u ru px t i : Option (List ℕ)) (ws : List (List ℕ))
+      → Names e.conditions g f p m u ru px t i ws → Parts g f p m u ru px t i ws r
+      → ((prefix : List ℕ) → prefix_key e.conditions ≡ Some prefix → begins prefix r.place.uri ≡ true → begun ≡ true)
+      → (is_asked e r || begun) ≡ true
   is_filed (Some g) f p m u ru px t i ws n parts found =
       or_left (is_asked e r) begun (or_left by_guid _ (rw (n.guid) (its_guid g r.guid parts.guid)))
   is_filed None (q ∷ f) p m u ru px t i ws n parts found =
-      or_left (is_asked e r) begun (in_full by_guid by_full by_partial by_message by_uri by_rule by_tool (asks_for_none e) (rw (n.guid, n.full) (its_pair q r.full (and_parts (list_any (λ o. is_pair o q) r.full) (are_among f r.full) parts.full).0)))
+      or_left (is_asked e r) begun
+      (in_full by_guid by_full by_partial by_message by_uri by_rule by_tool (asks_for_none e)
+      (rw (n.guid, n.full) (its_pair q r.full (and_parts (list_any (λ o. is_pair o q) r.full) (are_among f r.full) parts.full).0)))
   is_filed None [] (q ∷ p) m u ru px t i ws n parts found =
-      or_left (is_asked e r) begun (in_partial by_guid by_full by_partial by_message by_uri by_rule by_tool (asks_for_none e) (rw (n.guid, n.full, n.partial) (its_pair q r.partial (and_parts (list_any (λ o. is_pair o q) r.partial) (are_among p r.partial) parts.partial).0)))
+      or_left (is_asked e r) begun
+      (in_partial by_guid by_full by_partial by_message by_uri by_rule by_tool (asks_for_none e)
+      (rw (n.guid, n.full, n.partial)
+      (its_pair q r.partial (and_parts (list_any (λ o. is_pair o q) r.partial) (are_among p r.partial) parts.partial).0)))
   is_filed None [] [] (Some m) u ru px t i ws n parts found =
-      or_left (is_asked e r) begun (in_message by_guid by_full by_partial by_message by_uri by_rule by_tool (asks_for_none e) (rw (n.guid, n.full, n.partial, n.message, n.uri, n.args) (in_message_keys r u (Some m) i ws parts.uri parts.message parts.id parts.args refl)))
+      or_left (is_asked e r) begun
+      (in_message by_guid by_full by_partial by_message by_uri by_rule by_tool (asks_for_none e)
+      (rw (n.guid, n.full, n.partial, n.message, n.uri, n.args)
+      (in_message_keys r u (Some m) i ws parts.uri parts.message parts.id parts.args refl)))
   is_filed None [] [] None u ru px t (Some i) ws n parts found =
-      or_left (is_asked e r) begun (in_message by_guid by_full by_partial by_message by_uri by_rule by_tool (asks_for_none e) (rw (n.guid, n.full, n.partial, n.message, n.uri, n.id, n.args) (in_message_keys r u None (Some i) ws parts.uri parts.message parts.id parts.args refl)))
+      or_left (is_asked e r) begun
+      (in_message by_guid by_full by_partial by_message by_uri by_rule by_tool (asks_for_none e)
+      (rw (n.guid, n.full, n.partial, n.message, n.uri, n.id, n.args)
+      (in_message_keys r u None (Some i) ws parts.uri parts.message parts.id parts.args refl)))
   is_filed None [] [] None u ru px t None (w ∷ ws) n parts found =
-      or_left (is_asked e r) begun (in_message by_guid by_full by_partial by_message by_uri by_rule by_tool (asks_for_none e) (rw (n.guid, n.full, n.partial, n.message, n.uri, n.id, n.args) (in_message_keys r u None None (w ∷ ws) parts.uri parts.message parts.id parts.args refl)))
+      or_left (is_asked e r) begun
+      (in_message by_guid by_full by_partial by_message by_uri by_rule by_tool (asks_for_none e)
+      (rw (n.guid, n.full, n.partial, n.message, n.uri, n.id, n.args)
+      (in_message_keys r u None None (w ∷ ws) parts.uri parts.message parts.id parts.args refl)))
   is_filed None [] [] None (Some u) ru px t None [] n parts found =
-      or_left (is_asked e r) begun (in_uri by_guid by_full by_partial by_message by_uri by_rule by_tool (asks_for_none e) (rw (n.guid, n.full, n.partial, n.message, n.uri, n.id, n.args) (its_text u r.place.uri parts.uri)))
+      or_left (is_asked e r) begun
+      (in_uri by_guid by_full by_partial by_message by_uri by_rule by_tool (asks_for_none e)
+      (rw (n.guid, n.full, n.partial, n.message, n.uri, n.id, n.args) (its_text u r.place.uri parts.uri)))
   is_filed None [] [] None None (Some ru) px t None [] n parts found =
-      or_left (is_asked e r) begun (in_rule by_guid by_full by_partial by_message by_uri by_rule by_tool (asks_for_none e) (rw (n.guid, n.full, n.partial, n.message, n.uri, n.id, n.args, n.rule) parts.rule))
+      or_left (is_asked e r) begun
+      (in_rule by_guid by_full by_partial by_message by_uri by_rule by_tool (asks_for_none e)
+      (rw (n.guid, n.full, n.partial, n.message, n.uri, n.id, n.args, n.rule) parts.rule))
   is_filed None [] [] None None None (Some px) t None [] n parts found =
       or_right (is_asked e r) begun (found px (rw (n.guid, n.full, n.partial, n.message, n.uri, n.id, n.args, n.rule, n.prefix) refl) parts.prefix)
   is_filed None [] [] None None None None (Some t) None [] n parts found =
-      or_left (is_asked e r) begun (in_tool by_guid by_full by_partial by_message by_uri by_rule by_tool (asks_for_none e) (rw (n.guid, n.full, n.partial, n.message, n.uri, n.id, n.args, n.rule, n.prefix, n.tool) parts.tool))
+      or_left (is_asked e r) begun
+      (in_tool by_guid by_full by_partial by_message by_uri by_rule by_tool (asks_for_none e)
+      (rw (n.guid, n.full, n.partial, n.message, n.uri, n.id, n.args, n.rule, n.prefix, n.tool) parts.tool))
   is_filed None [] [] None None None None None None [] n parts found =
-      or_left (is_asked e r) begun (in_none by_guid by_full by_partial by_message by_uri by_rule by_tool (asks_for_none e) (rw (n.guid, n.full, n.partial, n.message, n.uri, n.id, n.args, n.rule, n.prefix, n.tool) refl))
+      or_left (is_asked e r) begun
+      (in_none by_guid by_full by_partial by_message by_uri by_rule by_tool (asks_for_none e)
+      (rw (n.guid, n.full, n.partial, n.message, n.uri, n.id, n.args, n.rule, n.prefix, n.tool) refl))
 
 -- all entries that match a result are among the candidates and those whose prefix is found
-pub among : {S H : Type 0} (today : Option ℕ) (r : Record) (es : List Entry) (table : PrefixTable S H) → IsPrefixTable es table → (n : ℕ) (e : Entry) → slice_get es n ≡ Some e → matches today e r ≡ true → has n (candidates es r ++ option_map_or (found_for table) r.place.uri []) ≡ true
+pub among : {S H : Type 0} (today : Option ℕ) (r : Record) (es : List Entry) (table : PrefixTable S H) → IsPrefixTable es table
+    → (n : ℕ) (e : Entry) → slice_get es n ≡ Some e → matches today e r ≡ true
+    → has n (candidates es r ++ option_map_or (found_for table) r.place.uri []) ≡ true
 among today r es table is n e at match =
     let beginning : List ℕ = option_map_or (found_for table) r.place.uri [] in
     let cs : List Condition = e.conditions in
-    let begun : (prefix : List ℕ) → prefix_key cs ≡ Some prefix → begins prefix r.place.uri ≡ true → has n beginning ≡ true = λ prefix key begins. found_begun es table n e prefix r.place.uri is at key begins in
+    let begun : (prefix : List ℕ) → prefix_key cs ≡ Some prefix → begins prefix r.place.uri ≡ true
+    → has n beginning ≡ true = λ prefix key begins. found_begun es table n e prefix r.place.uri is at key begins in
     let all : hold cs r ≡ true = (and_parts (not (is_expired today e)) (hold cs r) match).1 in
-    let names : Names cs (guid_in cs) (pairs_in kinds.Fingerprints cs) (pairs_in kinds.PartialFingerprints cs) (text_in kinds.Message cs) (text_in kinds.Uri cs) (text_in kinds.RuleId cs) (text_in kinds.UriPrefix cs) (text_in kinds.Tool cs) (text_in kinds.MessageId cs) (args_in cs) = record { guid = refl; full = refl; partial = refl; message = refl; uri = refl; rule = refl; prefix = refl; tool = refl; id = refl; args = refl } in
+    let names : Names cs (guid_in cs) (pairs_in kinds.Fingerprints cs) (pairs_in kinds.PartialFingerprints cs) (text_in kinds.Message cs)
+    (text_in kinds.Uri cs) (text_in kinds.RuleId cs) (text_in kinds.UriPrefix cs) (text_in kinds.Tool cs) (text_in kinds.MessageId cs)
+    (args_in cs) =
+    record {
+      guid = refl;
+      full = refl;
+      partial = refl;
+      message = refl;
+      uri = refl;
+      rule = refl;
+      prefix = refl;
+      tool =
+          refl;
+      id = refl;
+      args = refl;
+    } in
     list_any-append (λ m. nat_eq m n) (candidates es r) beginning
     ∙ ap (λ b. b || has n beginning) (has_candidates es r n e at)
-    ∙ is_filed e r (has n beginning) (guid_in cs) (pairs_in kinds.Fingerprints cs) (pairs_in kinds.PartialFingerprints cs) (text_in kinds.Message cs) (text_in kinds.Uri cs) (text_in kinds.RuleId cs) (text_in kinds.UriPrefix cs) (text_in kinds.Tool cs) (text_in kinds.MessageId cs) (args_in cs) names (parts_of r cs all) begun
+    ∙ is_filed e r (has n beginning) (guid_in cs) (pairs_in kinds.Fingerprints cs) (pairs_in kinds.PartialFingerprints cs)
+    (text_in kinds.Message cs) (text_in kinds.Uri cs) (text_in kinds.RuleId cs) (text_in kinds.UriPrefix cs) (text_in kinds.Tool cs)
+    (text_in kinds.MessageId cs) (args_in cs) names (parts_of r cs all) begun

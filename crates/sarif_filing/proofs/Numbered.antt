@@ -59,7 +59,9 @@ joined true n old rest = append_assoc old (n ∷ []) rest
 joined false n old rest = rw append-nil refl
 
 -- the number of entry n comes after the numbers below it, if the entry passes the test
-pub one_more : (test : Entry → Bool) (n : ℕ) (es : List Entry) (e : Entry) (old new whole : List ℕ) → n < length es → e ≡ get_or es n e → new ≡ old ++ (if test e then n ∷ [] else []) → old ++ numbers_from test n (drop n es) ≡ whole → new ++ numbers_from test (n + 1) (drop (n + 1) es) ≡ whole
+pub one_more : (test : Entry → Bool) (n : ℕ) (es : List Entry) (e : Entry) (old new whole : List ℕ) → n < length es → e ≡ get_or es n e
+    → new ≡ old ++ (if test e then n ∷ [] else []) → old ++ numbers_from test n (drop n es) ≡ whole
+    → new ++ numbers_from test (n + 1) (drop (n + 1) es) ≡ whole
 one_more test n es e old new whole within is added so_far =
     let left : drop n es ≡ e ∷ drop (n + 1) es = drop_more es n e within ∙ ap (λ x. x ∷ drop (n + 1) es) (sym is) in
     ap (λ ns. ns ++ numbers_from test (n + 1) (drop (n + 1) es)) added
@@ -68,7 +70,8 @@ one_more test n es e old new whole within is added so_far =
     ∙ so_far
 
 -- the numbers under one key more are gone through
-pub under_step : {K : Type 0} (under : K → List ℕ) (old new : List ℕ) (ks : List K) (i : ℕ) (k : K) → i < length ks → k ≡ get_or ks i k → new ≡ old ++ under k → new ++ flat_map under (drop (i + 1) ks) ≡ old ++ flat_map under (drop i ks)
+pub under_step : {K : Type 0} (under : K → List ℕ) (old new : List ℕ) (ks : List K) (i : ℕ) (k : K) → i < length ks → k ≡ get_or ks i k
+    → new ≡ old ++ under k → new ++ flat_map under (drop (i + 1) ks) ≡ old ++ flat_map under (drop i ks)
 under_step under old new ks i k within is added =
     let split : drop i ks ≡ k ∷ drop (i + 1) ks = drop_more ks i k within ∙ ap (λ m. m ∷ drop (i + 1) ks) (sym is) in
     rw (added, split) (append_assoc old (under k) (flat_map under (drop (i + 1) ks)))

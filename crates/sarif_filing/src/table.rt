@@ -21,7 +21,7 @@ use sarif_model::{Record, Sequence, Text};
 use std::alloc::{AllocError, Global};
 use std::hash::BuildHasher;
 
-/// The numbers of the entries, rising, by the pair of texts that each is filed under.
+/// The numbers of the entries, rising, by the pair of strings that each is filed under.
 #[derive(Drop)]
 struct PairTables<S: BuildHasher + Copy> {
     full: IndexMap<(Text, Text), Vec<u32>, S>,
@@ -183,7 +183,7 @@ fn numbers_by_guid<S: BuildHasher + Copy>(
     Ok(table)
 }
 
-/// For each pair of texts the numbers of the entries that are filed under it, rising.
+/// For each pair of strings, the numbers of the entries that are filed under it, rising.
 fn numbers_by_pair<S: BuildHasher + Copy>(
     alloc: Global,
     hasher: S,
@@ -243,7 +243,7 @@ fn numbers_by_text<S: BuildHasher + Copy>(
     Ok(table)
 }
 
-/// The numbers of the entries that are filed nowhere, rising.
+/// The numbers of the entries that have no key, rising.
 fn numbers_of_others(alloc: Global, entries: &[Entry]) -> Result<Vec<u32>, AllocError>
     requires { length entries.now ≤ most_entries }
     ensures { IfOk result (λ numbers. numbers.items

@@ -52,7 +52,7 @@ text_goes args text rest utf8 h =
     ap (λ bs. ends_link args false (chars (bs ++ rest))) (sym (encodes-chars text utf8))
     ∙ chars_go args (chars text) rest (ap (list_all is_ordinary) (encodes-chars text utf8) ∙ h)
 
--- it ends between two characters
+-- the ordinary bytes end between two characters
 pub cut_there : (bs : List ℕ) (n : ℕ) → n ≤ length bs → (n < length bs → is_ordinary (get_or bs n 0) ≡ false) → IsCharBoundary bs n
 cut_there bs n within stops = (within, λ less. (IsCharBoundary-before_ascii bs n less (special_low (get_or bs n 0) (stops less))).1 less)
 
@@ -62,7 +62,7 @@ passes args bs n utf8 within h stops =
     ap (λ x. ends_link args false (chars x)) (sym (take-append-drop n bs))
     ∙ text_goes args (take n bs) (drop n bs) (IsUtf8-take bs n utf8 (cut_there bs n within stops)) h
 
--- the first bytes of a text, and some more of them
+-- the first bytes of a string, and some more of them
 pub parts_go : (bs : List ℕ) (i j : ℕ) → i ≤ j → list_all is_ordinary (take i bs) ≡ true → list_all is_ordinary (slice_range bs i j) ≡ true
     → list_all is_ordinary (take j bs) ≡ true
 parts_go bs i j within front part =
@@ -73,7 +73,7 @@ parts_go bs i j within front part =
 pub rest_is : (bs text : List ℕ) (i : ℕ) → bs ≡ text → take (length bs - i) (drop i bs) ≡ drop i text
 rest_is bs text i same = take_all (length bs - i) (drop i bs) (omega (arith, length-drop i bs)) ∙ ap (drop i) same
 
--- the same from a place of a text on
+-- bytes are passed from a position in a string on
 pub passes_from : (args : List Data) (text rest : List ℕ) (i n : ℕ) → IsUtf8 text → IsCharBoundary text i → rest ≡ drop i text → n ≤ length rest
     → list_all is_ordinary (take n rest) ≡ true → (n < length rest → is_ordinary (get_or rest n 0) ≡ false)
     → ends_link args false (chars (drop i text)) ≡ ends_link args false (chars (drop (i + n) text))
@@ -125,7 +125,8 @@ alone_passes args text i utf8 within cut here ordinary =
     let coded : encode_utf8_all (chars after) ≡ after = encodes-chars after (IsUtf8-drop text (i + 1) utf8 cut) in
     let zero_more : i + 1 + 0 ≡ i + 1 = omega arith in
     let first : is_ordinary (get_or (encode_utf8_all (chars after)) 0 0) ≡ true =
-    ap (λ bs. is_ordinary (get_or bs 0 0)) coded ∙ ap is_ordinary (get_or-drop (i + 1) text 0 0) ∙ ap (λ n. is_ordinary (get_or text n 0)) zero_more ∙ ordinary in
+    ap (λ bs. is_ordinary (get_or bs 0 0)) coded ∙ ap is_ordinary (get_or-drop (i + 1) text 0 0)
+    ∙ ap (λ n. is_ordinary (get_or text n 0)) zero_more ∙ ordinary in
     ap (λ x. ends_link args false (chars x)) (drop_more text i 0 within ∙ ap (λ a. a ∷ after) here)
     ∙ ap (ends_link args false) (char_of 92 after (omega arith))
     ∙ alone_goes args (chars after) (no_pair_before (chars after) first)
@@ -136,7 +137,8 @@ none_left : (args : List Data) → ends_link args false [] ≡ closes_link args 
 none_left args = refl
 
 -- no byte is left
-pub none_closes : (args : List Data) (text : List ℕ) (i : ℕ) → length text ≤ i → ends_link args false (chars (drop i text)) ≡ closes_link args (chars (drop i text))
+pub none_closes : (args : List Data) (text : List ℕ) (i : ℕ) → length text ≤ i
+    → ends_link args false (chars (drop i text)) ≡ closes_link args (chars (drop i text))
 none_closes args text i past =
     let none : chars (drop i text) ≡ [] = chars_of_empty (drop i text) (ap length (drop_all i text past)) in
     ap (ends_link args false) none ∙ none_left args ∙ sym (ap (closes_link args) none)

@@ -61,14 +61,14 @@ one_empty args others d cs h none =
 pub char_of : (b : ℕ) (bs : List ℕ) → b < 128 → chars (b ∷ bs) ≡ b ∷ chars bs
 char_of b bs low = ap (λ e. chars (e ++ bs)) (sym (encode_ascii b low)) ∙ char_back b bs
 
--- the next byte of a text, and what follows it
+-- the next byte of a string, and what follows it
 pub next : (text : List ℕ) (i j : ℕ) → i < length text → i + 1 ≡ j → drop i text ≡ get_or text i 0 ∷ drop j text
 next text i j within on = drop_more text i 0 within ∙ ap (λ n. get_or text i 0 ∷ drop n text) on
 
 pub cut_behind : (text : List ℕ) (i j : ℕ) → IsUtf8 text → i < length text → get_or text i 0 < 128 → j ≡ i + 1 → IsCharBoundary text j
 cut_behind text i j utf8 within low on = rw on (IsCharBoundary-after_ascii text i utf8 within low)
 
--- the placeholder at a place of a text
+-- the placeholder at a position in a string
 pub passes_one : (args : List Data) (text : List ℕ) (i : ℕ) → i + 2 < length text
     → IsEmptied args (get_or text i 0) (get_or text (i + 1) 0) (get_or text (i + 2) 0)
     → PassesEmpties args (drop i text) text → PassesEmpties args (drop (i + 3) text) text

@@ -34,14 +34,16 @@ module _ {X : Type 0} (name : X → List ℕ) (same : X → X → Bool) (same_na
   same_as : (text : List ℕ) (x y : X) → bytes_eq text (name y) ≡ true → bytes_eq (name x) text ≡ same x y
   same_as text x y e = ap (bytes_eq (name x)) ((bytes_eq-Decides text (name y)).0 e) ∙ same_name x y
 
-  one_by : (b0 b1 b2 b3 : Bool) (x : X) (text : List ℕ) → bytes_eq text (name a) ≡ b0 → bytes_eq text (name b) ≡ b1 → bytes_eq text (name c) ≡ b2 → bytes_eq text (name d) ≡ b3
+  one_by : (b0 b1 b2 b3 : Bool) (x : X) (text : List ℕ) → bytes_eq text (name a) ≡ b0 → bytes_eq text (name b) ≡ b1
+      → bytes_eq text (name c) ≡ b2 → bytes_eq text (name d) ≡ b3
       → bytes_eq (name x) text ≡ is_one same x (if b0 then Some a else (if b1 then Some b else (if b2 then Some c else (if b3 then Some d else None))))
   one_by true b1 b2 b3 x text e0 e1 e2 e3 = same_as text x a e0
   one_by false true b2 b3 x text e0 e1 e2 e3 = same_as text x b e1
   one_by false false true b3 x text e0 e1 e2 e3 = same_as text x c e2
   one_by false false false true x text e0 e1 e2 e3 = same_as text x d e3
   one_by false false false false x text e0 e1 e2 e3 =
-      each (λ y. bytes_eq (name y) text ≡ false) (other_text (name a) text e0) (other_text (name b) text e1) (other_text (name c) text e2) (other_text (name d) text e3) x
+      each (λ y. bytes_eq (name y) text ≡ false) (other_text (name a) text e0) (other_text (name b) text e1) (other_text (name c) text e2)
+      (other_text (name d) text e3) x
 
 each_state : (P : State → Type 0) → P New → P Unchanged → P Updated → P Absent → (s : State) → P s
 each_state P n u p o New = n
@@ -126,16 +128,41 @@ abbrev pub at_least_in : Level → Option Level → Bool
 at_least_in least None = false
 at_least_in least (Some l) = is_at_least least l
 
-severe_one : (o : Option Level) (side : Bool) (least : Level) → severe_of (λ l. count_if (is_level l o && side) 1) least ≡ count_if (at_least_in least o && side) 1
+severe_one : (o : Option Level) (side : Bool) (least : Level)
+    → severe_of (λ l. count_if (is_level l o && side) 1) least ≡ count_if (at_least_in least o && side) 1
 severe_one None side least = severe_zero least
 severe_one (Some Error) side least =
-    omega (arith, both_if (is_at_least least Error) side, zero_if (is_at_least least Warning), zero_if (is_at_least least Note), zero_if (is_at_least least NoLevel))
+    omega (
+      arith,
+      both_if (is_at_least least Error) side,
+      zero_if (is_at_least least Warning),
+      zero_if (is_at_least least Note),
+      zero_if (is_at_least least NoLevel),
+    )
 severe_one (Some Warning) side least =
-    omega (arith, both_if (is_at_least least Warning) side, zero_if (is_at_least least Error), zero_if (is_at_least least Note), zero_if (is_at_least least NoLevel))
+    omega (
+      arith,
+      both_if (is_at_least least Warning) side,
+      zero_if (is_at_least least Error),
+      zero_if (is_at_least least Note),
+      zero_if (is_at_least least NoLevel),
+    )
 severe_one (Some Note) side least =
-    omega (arith, both_if (is_at_least least Note) side, zero_if (is_at_least least Error), zero_if (is_at_least least Warning), zero_if (is_at_least least NoLevel))
+    omega (
+      arith,
+      both_if (is_at_least least Note) side,
+      zero_if (is_at_least least Error),
+      zero_if (is_at_least least Warning),
+      zero_if (is_at_least least NoLevel),
+    )
 severe_one (Some NoLevel) side least =
-    omega (arith, both_if (is_at_least least NoLevel) side, zero_if (is_at_least least Error), zero_if (is_at_least least Warning), zero_if (is_at_least least Note))
+    omega (
+      arith,
+      both_if (is_at_least least NoLevel) side,
+      zero_if (is_at_least least Error),
+      zero_if (is_at_least least Warning),
+      zero_if (is_at_least least Note),
+    )
 
 -- a result of this state and level, on that side
 abbrev pub one_of : Option State → Option Level → Bool → Count
@@ -147,13 +174,15 @@ hits_in policy (Some s) ol side = count_if (is_listed policy.states s) (count_if
 
 -- the result is a hit of its state, and not one of another
 hit_in : (policy : Policy) (ol : Option Level) (side : Bool) (s : State)
-    → count_if (is_listed policy.states s) (severe_of (λ l. count_if (is_level l ol && same_side false side) 1) policy.fail_on) ≡ hits_in policy (Some s) ol (same_side false side)
+    → count_if (is_listed policy.states s) (severe_of (λ l. count_if (is_level l ol && same_side false side) 1) policy.fail_on)
+    ≡ hits_in policy (Some s) ol (same_side false side)
 hit_in policy ol side s = ap (count_if (is_listed policy.states s)) (severe_one ol (same_side false side) policy.fail_on)
 
 none_in : (policy : Policy) (s : State) → count_if (is_listed policy.states s) (severe_of (λ _. 0) policy.fail_on) ≡ 0
 none_in policy s = none_at (is_listed policy.states s) policy.fail_on
 
-pub hits_one : (policy : Policy) (os : Option State) (ol : Option Level) (side : Bool) → hits_of (one_of os ol side) policy ≡ hits_in policy os ol (same_side false side)
+pub hits_one : (policy : Policy) (os : Option State) (ol : Option Level) (side : Bool)
+    → hits_of (one_of os ol side) policy ≡ hits_in policy os ol (same_side false side)
 hits_one policy None ol side = hits_zero policy
 hits_one policy (Some New) ol side = omega (arith, hit_in policy ol side New, none_in policy Unchanged, none_in policy Updated, none_in policy Absent)
 hits_one policy (Some Unchanged) ol side = omega (arith, hit_in policy ol side Unchanged, none_in policy New, none_in policy Updated, none_in policy Absent)

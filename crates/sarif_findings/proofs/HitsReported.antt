@@ -159,4 +159,5 @@ pub hits_alone : (reporting : Reporting) (log : Data)
     → length (reported_of (record reporting { show = Hits }) log) ≡ hits_of (count_of (runs_of log)) reporting.policy
 hits_alone reporting log =
     sym (each_one (reported_of (record reporting { show = Hits }) log))
-    ∙ counted (record reporting { show = Hits }) reporting.policy.fail_on (λ f. true) (λ run result l s. shown_alone (is_at_least reporting.policy.fail_on l)) log
+    ∙ counted (record reporting { show = Hits }) reporting.policy.fail_on (λ f. true)
+    (λ run result l s. shown_alone (is_at_least reporting.policy.fail_on l)) log

@@ -19,7 +19,8 @@ found_prefix root path n found =
     (n, found, subst P (sym found.0) found.2)
 
 pub stripped_is : (root path : List ℕ) (r : Option (Bor (List ℕ)))
-    → MatchOption r (FindsTextPrefix root path None) (λ x. (n : ℕ) × FindsTextPrefix root path (Some n) × (x.now ≡ drop n path) × (length x.now + n ≡ length path))
+    → MatchOption r (FindsTextPrefix root path None)
+    (λ x. (n : ℕ) × FindsTextPrefix root path (Some n) × (x.now ≡ drop n path) × (length x.now + n ≡ length path))
     → option_map (λ s. s.now) r ≡ (if starts_with nat_eq path root then Some (drop (length root) path) else None)
 stripped_is root path None lacks =
     let begins : false ≡ starts_with nat_eq path root = starts_text false root path lacks in
@@ -31,7 +32,8 @@ stripped_is root path (Some x) found =
 -- ---- `./`
 
 -- `front` leaves all characters if `test` is false for the first one, and otherwise what `after_here` leaves of the rest
-module _ (test : ℕ → List ℕ → Bool) (front : List ℕ → List ℕ) (is : (c : ℕ) (cs : List ℕ) → front (c ∷ cs) ≡ (if test c cs then after_here cs else c ∷ cs)) where
+module _ (test : ℕ → List ℕ → Bool) (front : List ℕ → List ℕ)
+    (is : (c : ℕ) (cs : List ℕ) → front (c ∷ cs) ≡ (if test c cs then after_here cs else c ∷ cs)) where
   pub step : (text rest : List ℕ) (c : ℕ) → IsUtf8 text → text ≡ encode_utf8 c ++ rest → test c (chars rest) ≡ true
       → after_here (chars rest) ≡ front (chars text)
   step text rest c utf8 parts e =

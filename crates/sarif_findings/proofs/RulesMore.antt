@@ -69,7 +69,8 @@ pub by_extension : (run : Data) (r : RuleReference) (i : ℕ) (extensions : List
 by_extension run r i extensions found some are is =
     let own = extensions_of (get (codes "tool") run) in
     ap (λ o. option_and_then (rule_by r.index (own_id_at r)) (option_map (map view) o)) is
-    ∙ ap (option_and_then (rule_by r.index (own_id_at r))) (sym (slice_get-map (map view) extensions i) ∙ ap (λ rs. slice_get rs i) are ∙ slice_get-map rules_in own i)
+    ∙ ap (option_and_then (rule_by r.index (own_id_at r)))
+    (sym (slice_get-map (map view) extensions i) ∙ ap (λ rs. slice_get rs i) are ∙ slice_get-map rules_in own i)
     ∙ sym (rule_of_extension r (slice_get own i))
     ∙ ap (option_and_then (rule_at r)) (sym (extension_is (get (codes "tool") run) i))
     ∙ ap (λ o. option_and_then (rule_at r) (component_by run o)) (sym some)

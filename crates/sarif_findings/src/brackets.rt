@@ -1,4 +1,4 @@
-//! The first bracket of a text that is not in a pair.
+//! The first bracket of a string that is not in a pair.
 ghost use Rattle.std.specs.Prelude.{◌≡◌, ◌<◌, ◌≤◌, List, drop, get_or, length, not, take, true, false, chars};
 ghost use Rattle.std.specs.Bool.{OnTrue};
 ghost use Rattle.std.specs.List.{list_all};
@@ -7,10 +7,10 @@ ghost use Rattle.serde_json.specs.Data.{Data};
 ghost use Rattle.sarif_findings.specs.Internal.Brackets as said;
 ghost use Rattle.sarif_findings.specs.Links.{ends_link};
 
-/// How many bytes are looked at together.
+/// How many bytes are checked together.
 const TOGETHER: usize = 64;
 
-/// Returns whether a byte is no bracket and no backslash.
+/// Returns whether a byte is neither a bracket nor a backslash.
 fn is_ordinary(byte: u8) -> bool
     ensures { result ≡ said.is_ordinary byte }
 {
@@ -60,7 +60,7 @@ fn ordinary_bytes(bytes: &[u8]) -> usize
     end
 }
 
-/// Returns where the first byte is, from this place of a text on, that is not ordinary.
+/// Returns the position of the first byte of a string, from this position on, that is not ordinary.
 fn ordinary_end(text: &str, from: usize) -> usize
     requires { IsCharBoundary text.now from }
     ensures cut { IsCharBoundary text.now result }

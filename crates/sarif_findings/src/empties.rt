@@ -28,7 +28,7 @@ fn is_emptied(args: &[Value], first: u8, digit: u8, last: u8) -> bool
     first == b'{' && last == b'}' && names_empty(args, digit)
 }
 
-/// Returns how many bytes of a text, from its first on, are such placeholders.
+/// Returns how many bytes of a string, from its first on, are such placeholders.
 fn empties_end(args: &[Value], text: &str) -> usize
     ensures cut { IsCharBoundary text.now result }
     ensures same { PassesEmpties (map view args.now) (drop result text.now) text.now }

@@ -60,12 +60,7 @@ fn ends_number(text: &str) -> bool
 fn are_digits(bytes: &[u8]) -> bool
     ensures { result ≡ list_all is_ascii_digit bytes.now }
 {
-    for byte in bytes {
-        if !byte.is_ascii_digit() {
-            return false;
-        }
-    }
-    true
+    bytes.iter().all(|byte| byte.is_ascii_digit())
 }
 
 /// Returns whether the argument with that index is a number: a string of digits.

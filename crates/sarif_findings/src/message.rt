@@ -96,24 +96,14 @@ fn message_text<'a>(subject: &Subject<'a>) -> &'a str
 fn are_unbracketed(bytes: &[u8]) -> bool
     ensures { result ≡ list_all is_unbracketed bytes.now }
 {
-    for byte in bytes {
-        if *byte == b'[' {
-            return false;
-        }
-    }
-    true
+    bytes.iter().all(|byte| *byte != b'[')
 }
 
 /// Whether none of these bytes is a `{` or `}`.
 fn are_unbraced(bytes: &[u8]) -> bool
     ensures { result ≡ list_all is_unbraced bytes.now }
 {
-    for byte in bytes {
-        if matches!(*byte, b'{' | b'}') {
-            return false;
-        }
-    }
-    true
+    bytes.iter().all(|byte| !matches!(*byte, b'{' | b'}'))
 }
 
 /// Returns whether a message has no link, regardless of the arguments.

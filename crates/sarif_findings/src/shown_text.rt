@@ -216,8 +216,8 @@ impl ShownText {
     }
 }
 
-/// Returns a string as it is shown: one line of at most `MOST_CHARACTERS` characters, none of which hides or controls others,
-/// followed by `…` if there were more. Returns `AllocError` if memory for it runs out.
+/// Returns a string as it is shown: one line of at most `MOST_CHARACTERS` characters, followed by `…` if there were
+/// more. No character in it hides or controls others. Returns `AllocError` if memory for it runs out.
 pub fn show_text(alloc: Global, text: &str) -> Result<String, AllocError>
     ensures { IfOk result (λ s. string_bytes s ≡ said.shown (chars text.now)) }
 {

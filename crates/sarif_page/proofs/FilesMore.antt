@@ -162,7 +162,8 @@ new_if : (b : Bool) (files : List (List ℕ)) (file : List ℕ) → b ≡ false 
 new_if true files file h = absurd (true≢false h)
 new_if false files file h = refl
 
-module _ (most : ℕ) (fs : List Finding) (f : Finding) (none : is_some (group_of most fs (file_of f)) ≡ false) (room : length (take most (files_of fs)) < most) where
+module _ (most : ℕ) (fs : List Finding) (f : Finding) (none : is_some (group_of most fs (file_of f)) ≡ false)
+    (room : length (take most (files_of fs)) < most) where
   absent : has_file (files_of fs) (file_of f) ≡ false
   absent =
       ap (λ t. has_file t (file_of f)) (sym (all_files most fs room))
@@ -234,7 +235,9 @@ pub grouped_rows : (fs : List Finding) (before files : List (List ℕ))
     ≡ flat_map (λ file. filter (is_in file) fs) files
 grouped_rows fs before [] = refl
 grouped_rows fs before (file ∷ files) =
-    ap (λ b. unwrap_or (if b then Some (filter (is_in file) fs) else None) [] ++ flat_map (λ q. unwrap_or (if has_file (before ++ (file ∷ files)) q then Some (filter (is_in q) fs) else None) []) files) (here fs before files file)
+    ap (λ b. unwrap_or (if b then Some (filter (is_in file) fs) else None) []
+    ++ flat_map (λ q. unwrap_or (if has_file (before ++ (file ∷ files)) q then Some (filter (is_in q) fs) else None) []) files)
+    (here fs before files file)
     ∙ ap (λ t. filter (is_in file) fs ++ t)
     (ap (λ l. flat_map (λ q. unwrap_or (if has_file l q then Some (filter (is_in q) fs) else None) []) files) (sym (append_assoc before (file ∷ []) files))
     ∙ grouped_rows fs (before ++ file ∷ []) files)

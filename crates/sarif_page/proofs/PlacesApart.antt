@@ -7,13 +7,21 @@ use Rattle.sarif_findings.proofs.HighBytes.{high_apart, char_kept}
 
 place_high : (b : ℕ) (rest : List ℕ) → 128 ≤ b → has_breaks [] rest ≡ true → has_breaks [] (b ∷ rest) ≡ true
 place_high b rest high h =
-    rw (high_apart b 47 high (omega arith), high_apart b 60 high (omega arith), high_apart b 62 high (omega arith), high_apart b 34 high (omega arith), high_apart b 39 high (omega arith), high_apart b 38 high (omega arith)) h
+    rw (
+      high_apart b 47 high (omega arith),
+      high_apart b 60 high (omega arith),
+      high_apart b 62 high (omega arith),
+      high_apart b 34 high (omega arith),
+      high_apart b 39 high (omega arith),
+      high_apart b 38 high (omega arith),
+    ) h
 
 place_low : (c : ℕ) (rest : List ℕ) → (c == 47) ≡ false → (c == 38) ≡ false → (c == 60) ≡ false → (c == 62) ≡ false → (c == 34) ≡ false → (c == 39) ≡ false
     → has_breaks [] rest ≡ true → has_breaks [] (c ∷ rest) ≡ true
 place_low c rest e e0 e1 e2 e3 e4 h = rw (e, e0, e1, e2, e3, e4) h
 
-place_by : (b b0 b1 b2 b3 b4 : Bool) (c : ℕ) (rest : List ℕ) → (c == 47) ≡ b → (c == 38) ≡ b0 → (c == 60) ≡ b1 → (c == 62) ≡ b2 → (c == 34) ≡ b3 → (c == 39) ≡ b4
+place_by : (b b0 b1 b2 b3 b4 : Bool) (c : ℕ) (rest : List ℕ) → (c == 47) ≡ b → (c == 38) ≡ b0 → (c == 60) ≡ b1 → (c == 62) ≡ b2
+    → (c == 34) ≡ b3 → (c == 39) ≡ b4
     → has_breaks [] rest ≡ true
     → has_breaks [] ((if b then codes "/<wbr>" else (if b0 then codes "&amp;" else (if b1 then codes "&lt;" else (if b2 then codes "&gt;" else (
     if b3 then codes "&quot;" else (if b4 then codes "&#39;" else encode_utf8 c)))))) ++ rest) ≡ true

@@ -177,7 +177,8 @@ goes_take : (f : Finding) (n : ℕ) (xs : List Finding) → goes_on f xs ≡ tru
 goes_take f zero xs h = refl
 goes_take f (suc n) [] h = refl
 goes_take f (suc n) (x ∷ xs) h =
-    goes_by (is_in (file_of f) x) (goes_on f xs) (not (list_any (is_in (file_of f)) xs)) (goes_on f (take n xs)) (not (list_any (is_in (file_of f)) (take n xs))) h
+    goes_by (is_in (file_of f) x) (goes_on f xs) (not (list_any (is_in (file_of f)) xs)) (goes_on f (take n xs))
+    (not (list_any (is_in (file_of f)) (take n xs))) h
     (goes_take f n xs) (λ e. ap not (any_take (is_in (file_of f)) n xs (not-true (list_any (is_in (file_of f)) xs) e)))
 
 together_take : (n : ℕ) (xs : List Finding) → are_together xs ≡ true → are_together (take n xs) ≡ true

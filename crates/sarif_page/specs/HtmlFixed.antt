@@ -32,7 +32,8 @@ counts_begin =
     codes "<div>\n" ++ (
     codes "<table class=\"counts\" rules=\"rows\" cellpadding=\"4\">\n" ++ (
     codes "<caption>All results by state and level; hits in bold</caption>\n" ++ (
-    codes "<thead><tr><th scope=\"col\" align=\"left\">state</th><th scope=\"col\">error</th><th scope=\"col\">warning</th><th scope=\"col\">note</th><th scope=\"col\">none</th><th scope=\"col\">suppressed</th></tr></thead>\n" ++ (
+    codes
+    "<thead><tr><th scope=\"col\" align=\"left\">state</th><th scope=\"col\">error</th><th scope=\"col\">warning</th><th scope=\"col\">note</th><th scope=\"col\">none</th><th scope=\"col\">suppressed</th></tr></thead>\n" ++ (
     codes "<tbody align=\"right\">\n")))))
 
 -- after the rows of the counts
@@ -67,7 +68,8 @@ section_middle =
 unfoldable pub section_heads : List ℕ
 section_heads =
     codes "</h2></caption>\n" ++ (
-    codes "<thead align=\"left\"><tr><th scope=\"col\">Place</th><th scope=\"col\">Level</th><th scope=\"col\">Message</th><th scope=\"col\">Rule</th><th scope=\"col\">State</th><th scope=\"col\">Tool</th></tr></thead>\n" ++ (
+    codes
+    "<thead align=\"left\"><tr><th scope=\"col\">Place</th><th scope=\"col\">Level</th><th scope=\"col\">Message</th><th scope=\"col\">Rule</th><th scope=\"col\">State</th><th scope=\"col\">Tool</th></tr></thead>\n" ++ (
     codes "<tbody align=\"left\" valign=\"top\">\n"))
 
 -- after the rows of a section

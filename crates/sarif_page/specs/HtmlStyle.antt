@@ -6,10 +6,13 @@ use Rattle.std.specs.Prelude.{ℕ, List, ◌++◌, codes}
 unfoldable pub style_top : List ℕ
 style_top =
     codes "<style>\n" ++ (
-    codes ":root{color-scheme:light dark;--page:#fff;--soft:#f6f8fa;--line:#d8dee4;--edge:#818b98;--text:#1f2328;--dim:#57606a;--mark:#fff3cd;--error:#b3261e;--warning:#7d4e00;--note:#0a58b0;--pass:#1a7f37}\n" ++ (
-    codes "@media (prefers-color-scheme:dark){:root{--page:#0d1117;--soft:#161b22;--line:#30363d;--edge:#7d8590;--text:#e6edf3;--dim:#9da7b1;--mark:#3b2e00;--error:#ff9a92;--warning:#e3b341;--note:#79c0ff;--pass:#56d364}}\n" ++ (
+    codes
+    ":root{color-scheme:light dark;--page:#fff;--soft:#f6f8fa;--line:#d8dee4;--edge:#818b98;--text:#1f2328;--dim:#57606a;--mark:#fff3cd;--error:#b3261e;--warning:#7d4e00;--note:#0a58b0;--pass:#1a7f37}\n" ++ (
+    codes
+    "@media (prefers-color-scheme:dark){:root{--page:#0d1117;--soft:#161b22;--line:#30363d;--edge:#7d8590;--text:#e6edf3;--dim:#9da7b1;--mark:#3b2e00;--error:#ff9a92;--warning:#e3b341;--note:#79c0ff;--pass:#56d364}}\n" ++ (
     codes "*{box-sizing:border-box}\n" ++ (
-    codes "body{margin:0 auto;max-width:92rem;padding:1.5rem 2rem 3rem;background:var(--page);color:var(--text);font:1rem/1.5 system-ui,-apple-system,\"Segoe UI\",sans-serif}\n" ++ (
+    codes
+    "body{margin:0 auto;max-width:92rem;padding:1.5rem 2rem 3rem;background:var(--page);color:var(--text);font:1rem/1.5 system-ui,-apple-system,\"Segoe UI\",sans-serif}\n" ++ (
     codes "header{display:grid;grid-template-columns:minmax(0,1fr) auto;gap:0 4rem;align-items:start}\n" ++ (
     codes "h1{margin:0 0 .75rem;padding-left:1rem;border-left:.5rem solid;font-size:2rem;line-height:1.2;text-wrap:balance}\n" ++ (
     codes "h1.fail{color:var(--error)}\n" ++ (
@@ -28,7 +31,8 @@ style_top =
     codes "caption{text-align:left}\n" ++ (
     codes ".counts{width:100%;font-size:.875rem;line-height:1.4}\n" ++ (
     codes ".counts caption{padding-bottom:.25rem;color:var(--dim)}\n" ++ (
-    codes ".counts th,.counts td{padding:.1875rem .625rem;border-bottom:1px solid var(--line);text-align:right;font-weight:400;font-variant-numeric:tabular-nums}\n" ++ (
+    codes
+    ".counts th,.counts td{padding:.1875rem .625rem;border-bottom:1px solid var(--line);text-align:right;font-weight:400;font-variant-numeric:tabular-nums}\n" ++ (
     codes ".counts tr>:first-child{padding-left:0;text-align:left}\n" ++ (
     codes ".counts thead th{color:var(--dim)}\n" ++ (
     codes ".counts .on{outline:1px solid var(--edge);outline-offset:-2px;background:var(--mark)}\n"))))))))))))))))))))))))))
@@ -47,14 +51,16 @@ style_tables =
     codes "section{margin-top:1.75rem}\n" ++ (
     codes "h2{margin:0;padding-bottom:.5rem;font-size:1.375rem;line-height:1.3}\n" ++ (
     codes ".results{width:100%;table-layout:fixed;font-size:.9375rem;line-height:1.45}\n" ++ (
-    codes ".results thead th{position:sticky;top:0;padding:.375rem 1rem .375rem 0;border-bottom:2px solid var(--edge);background:var(--page);color:var(--dim);font-size:.875rem;font-weight:400;text-align:left}\n" ++ (
+    codes
+    ".results thead th{position:sticky;top:0;padding:.375rem 1rem .375rem 0;border-bottom:2px solid var(--edge);background:var(--page);color:var(--dim);font-size:.875rem;font-weight:400;text-align:left}\n" ++ (
     codes ".results th{width:29%}\n" ++ (
     codes ".results th:nth-child(2){width:6.25rem}\n" ++ (
     codes ".results th:nth-child(3){width:auto}\n" ++ (
     codes ".results th:nth-child(4){width:7.5rem}\n" ++ (
     codes ".results th:nth-child(5){width:6rem}\n" ++ (
     codes ".results th:nth-child(6){width:7rem}\n" ++ (
-    codes ".results tbody>tr>*{padding:.5rem 1rem .5rem 0;border-top:1px solid var(--line);text-align:left;vertical-align:baseline;font-weight:400;overflow-wrap:anywhere}\n" ++ (
+    codes
+    ".results tbody>tr>*{padding:.5rem 1rem .5rem 0;border-top:1px solid var(--line);text-align:left;vertical-align:baseline;font-weight:400;overflow-wrap:anywhere}\n" ++ (
     codes ".results tbody>tr>:last-child{padding-right:0}\n" ++ (
     codes ".results tbody>.again>*{padding-top:.0625rem;border-top-color:transparent}\n" ++ (
     codes ".results tbody>:first-child>*{border-top:0}\n" ++ (
@@ -66,7 +72,8 @@ style_tables =
 -- cells by their level and state
 unfoldable pub style_cells : List ℕ
 style_cells =
-    codes ".results td:nth-child(2) span{display:inline-block;padding:0 .4375rem;border:1px solid;border-radius:.25rem;font-size:.8125rem;line-height:1.4;white-space:nowrap}\n" ++ (
+    codes
+    ".results td:nth-child(2) span{display:inline-block;padding:0 .4375rem;border:1px solid;border-radius:.25rem;font-size:.8125rem;line-height:1.4;white-space:nowrap}\n" ++ (
     codes ".results td:nth-child(5){white-space:nowrap}\n" ++ (
     codes "[data-level=\"error\"] td:nth-child(2) span{background:var(--error);border-color:var(--error)!important;color:var(--page);font-weight:700}\n" ++ (
     codes "[data-level=\"warning\"] td:nth-child(2) span{color:var(--warning);font-weight:700}\n" ++ (
@@ -110,10 +117,13 @@ style_narrow =
 -- rows that the boxes exclude, and the printed page
 unfoldable pub style_end : List ℕ
 style_end =
-    codes "main:has(#error:not(:checked)) [data-level=\"error\"],main:has(#warning:not(:checked)) [data-level=\"warning\"],main:has(#note:not(:checked)) [data-level=\"note\"],main:has(#none:not(:checked)) [data-level=\"none\"],\n" ++ (
-    codes "main:has(#new:not(:checked)) [data-state=\"new\"],main:has(#unchanged:not(:checked)) [data-state=\"unchanged\"],main:has(#updated:not(:checked)) [data-state=\"updated\"],main:has(#absent:not(:checked)) [data-state=\"absent\"]{display:none}\n" ++ (
+    codes
+    "main:has(#error:not(:checked)) [data-level=\"error\"],main:has(#warning:not(:checked)) [data-level=\"warning\"],main:has(#note:not(:checked)) [data-level=\"note\"],main:has(#none:not(:checked)) [data-level=\"none\"],\n" ++ (
+    codes
+    "main:has(#new:not(:checked)) [data-state=\"new\"],main:has(#unchanged:not(:checked)) [data-state=\"unchanged\"],main:has(#updated:not(:checked)) [data-state=\"updated\"],main:has(#absent:not(:checked)) [data-state=\"absent\"]{display:none}\n" ++ (
     codes "@media print{\n" ++ (
-    codes ":root{color-scheme:light;--page:#fff;--soft:#fff;--line:#999;--edge:#000;--text:#000;--dim:#333;--mark:#fff;--error:#000;--warning:#000;--note:#000;--pass:#000}\n" ++ (
+    codes
+    ":root{color-scheme:light;--page:#fff;--soft:#fff;--line:#999;--edge:#000;--text:#000;--dim:#333;--mark:#fff;--error:#000;--warning:#000;--note:#000;--pass:#000}\n" ++ (
     codes "body{max-width:none;padding:0;font-size:.8125rem}\n" ++ (
     codes ".filters,nav{display:none}\n" ++ (
     codes ".results{font-size:.75rem}\n" ++ (

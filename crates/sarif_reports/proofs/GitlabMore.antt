@@ -68,7 +68,9 @@ path_cut (Some a) (Some b) r s e = let cut = json_cut a b r s e in (ap Some cut.
 
 -- an identity and more, piece by piece
 identity_pieces : (f : Finding) (r : List ℕ)
-    → identity_of f ++ r ≡ 91 ∷ (quoted_text f.tool ++ (44 ∷ (quoted_text f.rule ++ (44 ∷ (compact_text (path_or_null f.path) ++ (44 ∷ (quoted_text f.message ++ r)))))))
+    → identity_of f ++ r ≡ 91
+    ∷ (quoted_text f.tool
+    ++ (44 ∷ (quoted_text f.rule ++ (44 ∷ (compact_text (path_or_null f.path) ++ (44 ∷ (quoted_text f.message ++ r)))))))
 unfolding identity_of
 identity_pieces f r = simp append_assoc
 
@@ -105,7 +107,12 @@ alike_identity f g h =
     let tool = and_parts _ _ h in
     let rule = and_parts _ _ tool.1 in
     let path = and_parts _ _ rule.1 in
-    rw ((bytes_eq-Decides f.tool g.tool).0 tool.0, (bytes_eq-Decides f.rule g.rule).0 rule.0, same_path-is f.path g.path path.0, (bytes_eq-Decides f.message g.message).0 path.1)
+    rw (
+      (bytes_eq-Decides f.tool g.tool).0 tool.0,
+      (bytes_eq-Decides f.rule g.rule).0 rule.0,
+      same_path-is f.path g.path path.0,
+      (bytes_eq-Decides f.message g.message).0 path.1,
+    )
     refl
 
 same_tests : (a b : Bool) → (a ≡ true → b ≡ true) → (b ≡ true → a ≡ true) → a ≡ b
@@ -205,11 +212,13 @@ whole_array fs ds objects text are is whole =
 
 joined_on : (xs ys : List Data) → joined_objects true xs ++ joined_objects true ys ≡ joined_objects true (xs ++ ys)
 joined_on [] ys = refl
-joined_on (x ∷ xs) ys = ap (λ t. 44 ∷ t) (append_assoc (compact_text x) (joined_objects true xs) (joined_objects true ys) ∙ ap (λ t. compact_text x ++ t) (joined_on xs ys))
+joined_on (x ∷ xs) ys = ap (λ t. 44 ∷ t)
+    (append_assoc (compact_text x) (joined_objects true xs) (joined_objects true ys) ∙ ap (λ t. compact_text x ++ t) (joined_on xs ys))
 
 joined_first : (xs ys : List Data) → 0 < length xs → joined_objects false xs ++ joined_objects true ys ≡ joined_objects false (xs ++ ys)
 joined_first [] ys some = absurd (omega (arith, some))
-joined_first (x ∷ xs) ys some = append_assoc (compact_text x) (joined_objects true xs) (joined_objects true ys) ∙ ap (λ t. compact_text x ++ t) (joined_on xs ys)
+joined_first (x ∷ xs) ys some = append_assoc (compact_text x) (joined_objects true xs) (joined_objects true ys)
+    ∙ ap (λ t. compact_text x ++ t) (joined_on xs ys)
 
 joined_later : (xs : List Data) → 0 < length xs → 44 ∷ joined_objects false xs ≡ joined_objects true xs
 joined_later [] some = absurd (omega (arith, some))
@@ -221,11 +230,14 @@ comma_later begin start later = ap (λ b. if b then begin else (44 ∷ [])) (ne_
 
 -- the objects of parts, the first of them after a string
 module _ {F E : Type 0} (g : Shared F (ℕ × (Bor (List Ranked) × Unit {0})) (Result (String Global) E)) (f : F) (begin : List ℕ)
-    (each : (start : ℕ) (p : Bor (List Ranked)) (s : String Global) → g.post f (start, (p, tt)) (Ok s) → string_bytes s ≡ before_part begin start ++ joined_objects false (map object_of p.now)) where
-  part_text : (start : ℕ) (p : List Ranked) (s : String Global) → GivesPart g f start p (Ok s) → string_bytes s ≡ before_part begin start ++ joined_objects false (map object_of p)
+    (each : (start : ℕ) (p : Bor (List Ranked)) (s : String Global) → g.post f (start, (p, tt)) (Ok s)
+    → string_bytes s ≡ before_part begin start ++ joined_objects false (map object_of p.now)) where
+  part_text : (start : ℕ) (p : List Ranked) (s : String Global) → GivesPart g f start p (Ok s)
+      → string_bytes s ≡ before_part begin start ++ joined_objects false (map object_of p)
   part_text start p s made = each start made.shown s made.call ∙ ap (λ q. before_part begin start ++ joined_objects false (map object_of q)) made.shows
 
-  later_parts : (start : ℕ) (ps : List (List Ranked)) (ss : List (String Global)) → 0 < start → AllByRecursion (λ p. 0 < length p) ps → GivesParts g f start ps (map Ok ss)
+  later_parts : (start : ℕ) (ps : List (List Ranked)) (ss : List (String Global)) → 0 < start → AllByRecursion (λ p. 0 < length p) ps
+      → GivesParts g f start ps (map Ok ss)
       → flat_map string_bytes ss ≡ joined_objects true (map object_of (flat_map (λ p. p) ps))
   later_parts start [] [] later some given = refl
   later_parts start [] (s ∷ ss) later some given = absurd given
@@ -234,11 +246,13 @@ module _ {F E : Type 0} (g : Shared F (ℕ × (Bor (List Ranked) × Unit {0})) (
       let xs = map object_of p in
       let rest = flat_map (λ q. q) ps in
       ap₂ (λ a b. a ++ b)
-      (part_text start p s given.0 ∙ ap (λ t. t ++ joined_objects false xs) (comma_later begin start later) ∙ joined_later xs (rw (length-map p object_of) some.0))
+      (part_text start p s given.0 ∙ ap (λ t. t ++ joined_objects false xs) (comma_later begin start later)
+      ∙ joined_later xs (rw (length-map p object_of) some.0))
       (later_parts (start + length p) ps ss (omega (arith, later)) some.1 given.1)
       ∙ joined_on xs (map object_of rest) ∙ ap (joined_objects true) (sym (map-append object_of p rest))
 
-  all_parts : (ps : List (List Ranked)) (ss : List (String Global)) → 0 < length (flat_map (λ p. p) ps) → AllByRecursion (λ p. 0 < length p) ps → GivesParts g f 0 ps (map Ok ss)
+  all_parts : (ps : List (List Ranked)) (ss : List (String Global)) → 0 < length (flat_map (λ p. p) ps)
+      → AllByRecursion (λ p. 0 < length p) ps → GivesParts g f 0 ps (map Ok ss)
       → flat_map string_bytes ss ≡ begin ++ joined_objects false (map object_of (flat_map (λ p. p) ps))
   all_parts [] ss any some given = absurd (omega (arith, any))
   all_parts (p ∷ ps) [] any some given = absurd given
@@ -247,9 +261,11 @@ module _ {F E : Type 0} (g : Shared F (ℕ × (Bor (List Ranked) × Unit {0})) (
       let rest = flat_map (λ q. q) ps in
       ap₂ (λ a b. a ++ b) (part_text 0 p s given.0) (later_parts (0 + length p) ps ss (omega (arith, some.0)) some.1 given.1)
       ∙ append_assoc begin (joined_objects false xs) (joined_objects true (map object_of rest))
-      ∙ ap (λ t. begin ++ t) (joined_first xs (map object_of rest) (rw (length-map p object_of) some.0) ∙ ap (joined_objects false) (sym (map-append object_of p rest)))
+      ∙ ap (λ t. begin ++ t) (joined_first xs (map object_of rest) (rw (length-map p object_of) some.0)
+      ∙ ap (joined_objects false) (sym (map-append object_of p rest)))
 
-  pub joined_parts : (xs : List Ranked) (rs : List (Result (String Global) E)) (text : List ℕ) → 0 < length xs → GivesInParts g f xs rs → AreJoined string_bytes rs text
+  pub joined_parts : (xs : List Ranked) (rs : List (Result (String Global) E)) (text : List ℕ) → 0 < length xs → GivesInParts g f xs rs
+      → AreJoined string_bytes rs text
       → text ≡ begin ++ joined_objects false (map object_of xs)
   joined_parts xs rs text any made are =
       let ps = made.parts in
@@ -312,7 +328,9 @@ is_same_key key other true is h =
     (sym (texts_ties key.1 other) ∙ (bytes_eq-Decides key.1 other).1 (sym same))
 is_same_key key other false is h =
     sym (tied_then (nat_cmp key.0 (number_of other)) (slice_cmp nat_cmp key.1 other))
-    ∙ false_from_ne_true _ (λ both. true≢false (sym ((bytes_eq-Decides other key.1).1 (sym ((bytes_eq-Decides key.1 other).0 (texts_ties key.1 other ∙ (and_parts _ _ both).1)))) ∙ h))
+    ∙ false_from_ne_true _
+    (λ both. true≢false
+    (sym ((bytes_eq-Decides other key.1).1 (sym ((bytes_eq-Decides key.1 other).0 (texts_ties key.1 other ∙ (and_parts _ _ both).1)))) ∙ h))
 
 counted_by : (b : Bool) (old new : Option ℕ) (rank : ℕ) → new ≡ cond b (Some (rank + 1)) old → (b ≡ true → unwrap_or old 0 ≡ rank)
     → unwrap_or new 0 ≡ unwrap_or old 0 + (if b then 1 else 0)
@@ -368,6 +386,8 @@ pub counted_again : (old mid new : tree.BTreeMap (ℕ × List ℕ) ℕ) (key aga
     → ((q : ℕ × List ℕ) → tree.get key_cmp new q ≡ cond (is_eq (key_cmp again q)) (Some (rank + 1)) (tree.get key_cmp mid q))
     → counted new other ≡ counted old other + (if bytes_eq other text then 1 else 0)
 counted_again old mid new key again text other rank is same twice some first last =
-    let updates : (q : ℕ × List ℕ) → tree.get key_cmp new q ≡ cond (is_eq (key_cmp key q)) (Some (rank + 1)) (tree.get key_cmp old q) = λ q. put_twice (is_eq (key_cmp key q)) (tree.get key_cmp old q) (tree.get key_cmp mid q) (tree.get key_cmp new q) (Some 1) (Some (rank + 1)) (first q) (last q ∙ ap (λ k. cond (is_eq (key_cmp k q)) (Some (rank + 1)) (tree.get key_cmp mid q)) (sym twice)) in
+    let updates : (q : ℕ × List ℕ) → tree.get key_cmp new q ≡ cond (is_eq (key_cmp key q)) (Some (rank + 1)) (tree.get key_cmp old q) =
+    λ q. put_twice (is_eq (key_cmp key q)) (tree.get key_cmp old q) (tree.get key_cmp mid q) (tree.get key_cmp new q) (Some 1)
+    (Some (rank + 1)) (first q) (last q ∙ ap (λ k. cond (is_eq (key_cmp k q)) (Some (rank + 1)) (tree.get key_cmp mid q)) (sym twice)) in
     counted_more old new key other rank is (ap (λ o. unwrap_or o 0) some ∙ rank_is old key is) updates
     ∙ ap (λ t. counted old other + (if bytes_eq other t then 1 else 0)) same

@@ -44,7 +44,8 @@ later_differs f g before more small =
     let long = length-append before (f ∷ more) in
     let short = rank_short before f in
     let short' = rank_short (before ++ f ∷ more) g in
-    let told = same_text f g (rank_among before f) (rank_among (before ++ f ∷ more) g) (omega (arith, short, small)) (omega (arith, short', long, small)) ((bytes_eq-Decides _ _).0 same) in
+    let told = same_text f g (rank_among before f) (rank_among (before ++ f ∷ more) g) (omega (arith, short, small))
+    (omega (arith, short', long, small)) ((bytes_eq-Decides _ _).0 same) in
     let ranks = rank_alike f g before told.0 in
     let more_of = rank_more f g before more (alike_back f g told.0) in
     omega (arith, told.1, ranks, more_of))

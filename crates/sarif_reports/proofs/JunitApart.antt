@@ -69,7 +69,10 @@ char_lines : (c : ℕ) → is_seen c ≡ true → IsLines (encode_utf8 c)
 char_lines c seen = (c ∷ [], append-nil (encode_utf8 c), and_from (c == 10 || is_seen c) true (or_right (c == 10) (is_seen c) seen) refl)
 
 page_lines : (b0 b1 b2 b3 b4 : Bool) (c : ℕ) → is_seen c ≡ true
-    → IsLines (if b0 then codes "&amp;" else (if b1 then codes "&lt;" else (if b2 then codes "&gt;" else (if b3 then codes "&quot;" else (if b4 then codes "&#39;" else encode_utf8 c)))))
+    → IsLines
+    (if b0 then codes "&amp;" else
+    (if b1 then codes "&lt;" else
+    (if b2 then codes "&gt;" else (if b3 then codes "&quot;" else (if b4 then codes "&#39;" else encode_utf8 c)))))
 page_lines true b1 b2 b3 b4 c seen = ascii_lines (codes "&amp;") refl
 page_lines false true b2 b3 b4 c seen = ascii_lines (codes "&lt;") refl
 page_lines false false true b3 b4 c seen = ascii_lines (codes "&gt;") refl
@@ -218,7 +221,9 @@ name_seen f told = two_texts (spot_text f) (colon_rule f.rule) (place_seen f tol
 
 nth_by : (b : Bool) (name : List ℕ) (n : ℕ) → IsSeenText name → n < 2 ^ 64 → IsSeenText (if b then name ++ (codes " (" ++ (decimal n ++ codes ")")) else name)
 nth_by true name n is small =
-    two_texts name _ is (two_texts (codes " (") _ (plain_text (codes " (") refl) (two_texts (decimal n) (codes ")") (plain_text (decimal n) (decimal_plain n small)) (plain_text (codes ")") refl)))
+    two_texts name _ is
+    (two_texts (codes " (") _ (plain_text (codes " (") refl)
+    (two_texts (decimal n) (codes ")") (plain_text (decimal n) (decimal_plain n small)) (plain_text (codes ")") refl)))
 nth_by false name n is small = is
 
 nth_seen : (name : List ℕ) (n : ℕ) → IsSeenText name → n < 2 ^ 64 → IsSeenText (nth_name name n)
@@ -270,7 +275,9 @@ unfolding case_begin
 begin_piece name f is told =
     as_piece 1 0 0 refl refl refl
     (then_piece (attribute_piece (codes "<testcase name=\"") name case_first is)
-    (then_piece (attribute_piece (codes "\" classname=\"") (class_of f) (quiet_piece (codes "\" classname=\"") refl (ascii_lines (codes "\" classname=\"") refl))
+    (then_piece
+    (attribute_piece (codes "\" classname=\"") (class_of f)
+    (quiet_piece (codes "\" classname=\"") refl (ascii_lines (codes "\" classname=\"") refl))
     (class_seen f.path f.tool told.path (shown_text f.tool told.tool)))
     (then_piece (quiet_piece (codes "\"") refl (ascii_lines (codes "\"") refl)) (then_piece (file_piece f.path told.path) (line_piece f.line told.line)))))
 
@@ -279,7 +286,14 @@ failure_first = record { cases = λ more. none refl; failures = λ more. refl; s
 
 failure_last : Piece 0 0 0 failure_end
 unfolding failure_end
-failure_last = record { cases = λ more. none refl; failures = λ more. none refl; skips = λ more. none refl; lines = ascii_lines (codes "</failure></testcase>\n") refl }
+failure_last =
+    record {
+      cases = λ more. none refl;
+      failures = λ more. none refl;
+      skips = λ more. none refl;
+      lines =
+          ascii_lines (codes "</failure></testcase>\n") refl;
+    }
 
 shown_piece : (f : Finding) → IsTold f → Piece 0 0 0 (shown_line f)
 unfolding shown_line
@@ -290,15 +304,31 @@ unfolding failure
 failure_piece f told =
     as_piece 0 1 0 refl refl refl
     (then_piece (attribute_piece (codes "><failure type=\"") (level_name f.level) failure_first (plain_text (level_name f.level) (level_plain f.level)))
-    (then_piece (attribute_piece (codes "\" message=\"") f.message (quiet_piece (codes "\" message=\"") refl (ascii_lines (codes "\" message=\"") refl)) (shown_text f.message told.message))
+    (then_piece
+    (attribute_piece (codes "\" message=\"") f.message (quiet_piece (codes "\" message=\"") refl (ascii_lines (codes "\" message=\"") refl))
+    (shown_text f.message told.message))
     (then_piece (shown_piece f told) failure_last)))
 
 skipped_first : Piece 0 0 1 (codes "><skipped message=\"")
-skipped_first = record { cases = λ more. none refl; failures = λ more. none refl; skips = λ more. refl; lines = ascii_lines (codes "><skipped message=\"") refl }
+skipped_first =
+    record {
+      cases = λ more. none refl;
+      failures = λ more. none refl;
+      skips = λ more. refl;
+      lines =
+          ascii_lines (codes "><skipped message=\"") refl;
+    }
 
 skipped_last : Piece 0 0 0 skipped_end
 unfolding skipped_end
-skipped_last = record { cases = λ more. none refl; failures = λ more. none refl; skips = λ more. none refl; lines = ascii_lines (codes "\"/></testcase>\n") refl }
+skipped_last =
+    record {
+      cases = λ more. none refl;
+      failures = λ more. none refl;
+      skips = λ more. none refl;
+      lines =
+          ascii_lines (codes "\"/></testcase>\n") refl;
+    }
 
 skipped_piece : (f : Finding) → IsTold f → Piece 0 0 1 (skipped f)
 unfolding skipped
@@ -378,10 +408,18 @@ counts_piece v fs small =
     let few = fails_few v fs in
     as_piece 0 0 0 refl refl refl
     (then_piece (counted_piece (codes "\" tests=\"") (length fs) (quiet_piece (codes "\" tests=\"") refl (ascii_lines (codes "\" tests=\"") refl)) small)
-    (counted_piece (codes "\" failures=\"") (failures_in v fs) (quiet_piece (codes "\" failures=\"") refl (ascii_lines (codes "\" failures=\"") refl)) (omega (arith, few, small))))
+    (counted_piece (codes "\" failures=\"") (failures_in v fs)
+    (quiet_piece (codes "\" failures=\"") refl (ascii_lines (codes "\" failures=\"") refl)) (omega (arith, few, small))))
 
 suite_first : Piece 0 0 0 (codes "<testsuite name=\"")
-suite_first = record { cases = λ more. none refl; failures = λ more. none refl; skips = λ more. none refl; lines = ascii_lines (codes "<testsuite name=\"") refl }
+suite_first =
+    record {
+      cases = λ more. none refl;
+      failures = λ more. none refl;
+      skips = λ more. none refl;
+      lines =
+          ascii_lines (codes "<testsuite name=\"") refl;
+    }
 
 tag_last : Piece 0 0 0 (codes "\">\n")
 tag_last = quiet_piece (codes "\">\n") refl (ascii_lines (codes "\">\n") refl)
@@ -393,7 +431,9 @@ suite_begins v tool fs is small =
     as_piece 0 0 0 refl refl refl
     (then_piece (attribute_piece (codes "<testsuite name=\"") tool suite_first is)
     (then_piece (counts_piece v fs small)
-    (then_piece (counted_piece (codes "\" skipped=\"") (skipped_in v fs) (quiet_piece (codes "\" skipped=\"") refl (ascii_lines (codes "\" skipped=\"") refl)) (omega (arith, few, small)))
+    (then_piece
+    (counted_piece (codes "\" skipped=\"") (skipped_in v fs)
+    (quiet_piece (codes "\" skipped=\"") refl (ascii_lines (codes "\" skipped=\"") refl)) (omega (arith, few, small)))
     tag_last)))
 
 suite_last : Piece 0 0 0 suite_end
@@ -443,7 +483,8 @@ total_by false size is f s suites rest =
     let old = sum_by-cons (λ s. size s.1) s suites in
     omega (arith, new, old, rest)
 
-total_more : (size : List Finding → ℕ) → IsSize size → (f : Finding) (suites : List Suite) → total size (with_result f suites) ≡ total size suites + size (f ∷ [])
+total_more : (size : List Finding → ℕ) → IsSize size → (f : Finding) (suites : List Suite)
+    → total size (with_result f suites) ≡ total size suites + size (f ∷ [])
 total_more size is f [] = let one = sum_by-cons (λ (s : Suite). size s.1) (f.tool, f ∷ []) [] in omega (arith, one)
 total_more size is f (s ∷ suites) = total_by (bytes_eq f.tool s.0) size is f s suites (total_more size is f suites)
 

@@ -123,12 +123,14 @@ last_few unshown hits small = two 41 150 (paragraph (unshown_line unshown)) (par
 begin_few : (name : List ℕ) (error warning : ℕ) → length name ≤ 9 → error < 2 ^ 32 → warning < 2 ^ 32 → length (row_begin name error warning) ≤ 40
 begin_few name error warning n e w =
     two 2 38 (codes "| ") _ (omega arith) (two 9 29 name _ n (two 3 26 (codes " | ") _ (omega arith)
-    (two 10 16 (decimal error) _ (ten error e) (two 3 13 (codes " | ") _ (omega arith) (two 10 3 (decimal warning) (codes " | ") (ten warning w) (omega arith))))))
+    (two 10 16 (decimal error) _ (ten error e)
+    (two 3 13 (codes " | ") _ (omega arith) (two 10 3 (decimal warning) (codes " | ") (ten warning w) (omega arith))))))
 
 end_few : (note none suppressed : ℕ) → note < 2 ^ 32 → none < 2 ^ 32 → suppressed < 2 ^ 34 → length (row_end note none suppressed) ≤ 41
 end_few note none suppressed n o s =
     two 10 31 (decimal note) _ (ten note n) (two 3 28 (codes " | ") _ (omega arith)
-    (two 10 18 (decimal none) _ (ten none o) (two 3 15 (codes " | ") _ (omega arith) (two 11 4 (decimal suppressed) (codes " |\n") (eleven suppressed s) (omega arith)))))
+    (two 10 18 (decimal none) _ (ten none o)
+    (two 3 15 (codes " | ") _ (omega arith) (two 11 4 (decimal suppressed) (codes " |\n") (eleven suppressed s) (omega arith)))))
 
 row_few : (s : State) (numbers : Level → Bool → ℕ) → ((l : Level) (b : Bool) → numbers l b < 2 ^ 32) → length (count_row s numbers) ≤ 81
 row_few s numbers small =
@@ -146,7 +148,8 @@ counts_few count small =
     (count_row New (count New) ++ (count_row Unchanged (count Unchanged) ++ (count_row Updated (count Updated) ++ count_row Absent (count Absent))))
     (omega arith) (two 81 243 (count_row New (count New)) _ (row_few New (count New) (small New))
     (two 81 162 (count_row Unchanged (count Unchanged)) _ (row_few Unchanged (count Unchanged) (small Unchanged))
-    (two 81 81 (count_row Updated (count Updated)) (count_row Absent (count Absent)) (row_few Updated (count Updated) (small Updated)) (row_few Absent (count Absent) (small Absent)))))
+    (two 81 81 (count_row Updated (count Updated)) (count_row Absent (count Absent)) (row_few Updated (count Updated) (small Updated))
+    (row_few Absent (count Absent) (small Absent)))))
 
 -- ---- the whole report
 
@@ -187,7 +190,8 @@ all_hits count policy small =
     let a = state_hits count policy Absent small in
     omega (arith, f, c, u, a)
 
-all_unshown : (show : Show) (count : Count) (policy : Policy) → ((s : State) (l : Level) (b : Bool) → count s l b < 2 ^ 32) → unshown_number show count policy < 2 ^ 36
+all_unshown : (show : Show) (count : Count) (policy : Policy) → ((s : State) (l : Level) (b : Bool) → count s l b < 2 ^ 32)
+    → unshown_number show count policy < 2 ^ 36
 all_unshown All count policy small = omega arith
 all_unshown Hits count policy small = let all = all_hits count (record policy { fail_on = NoLevel }) small in omega (arith, all)
 
@@ -211,7 +215,9 @@ report_few facts small =
 
 -- the length of the same parts, joined in order
 pub parts_few : (facts : Facts) → AreSmall facts
-    → length ((((heading (verdict_of facts.count facts.policy) (hits_of facts.count facts.policy) facts.policy.max ++ counts_table facts.count) ++ paragraph (notes facts.without facts.unused)) ++ results_table facts.findings)
+    → length
+    ((((heading (verdict_of facts.count facts.policy) (hits_of facts.count facts.policy) facts.policy.max ++ counts_table facts.count)
+    ++ paragraph (notes facts.without facts.unused)) ++ results_table facts.findings)
     ++ last_lines (unshown_number facts.show facts.count facts.policy) (hits_of facts.count facts.policy)) ≤ 61000
 parts_few facts small =
     let first = heading (verdict_of facts.count facts.policy) (hits_of facts.count facts.policy) facts.policy.max in
@@ -220,7 +226,8 @@ parts_few facts small =
     let fourth = results_table facts.findings in
     let last = last_lines (unshown_number facts.show facts.count facts.policy) (hits_of facts.count facts.policy) in
     subst (λ bytes. length bytes ≤ 61000)
-    (sym (append_assoc ((first ++ second) ++ third) fourth last ∙ append_assoc (first ++ second) third (fourth ++ last) ∙ append_assoc first second (third ++ (fourth ++ last))))
+    (sym (append_assoc ((first ++ second) ++ third) fourth last ∙ append_assoc (first ++ second) third (fourth ++ last)
+    ∙ append_assoc first second (third ++ (fourth ++ last))))
     (report_few facts small)
 
 -- ---- the counts of a merge have 32 bits

@@ -127,7 +127,8 @@ later_differs f g before more small =
     let short' = named_short (before ++ f ∷ more) (plain_name g) in
     let m = named_among before (plain_name f) in
     let n = named_among (before ++ f ∷ more) (plain_name g) in
-    let told = same_name (plain_name f) (plain_name g) (m + 1) (n + 1) (omega arith) (omega arith) (omega (arith, short, small)) (omega (arith, short', long, small))
+    let told = same_name (plain_name f) (plain_name g) (m + 1) (n + 1) (omega arith) (omega arith) (omega (arith, short, small))
+    (omega (arith, short', long, small))
     ((bytes_eq-Decides _ _).0 same) in
     let more_of = named_one f before more in
     let alike : named_among (before ++ f ∷ more) (plain_name f) ≡ n = ap (named_among (before ++ f ∷ more)) told.0 in

@@ -75,7 +75,8 @@ mark_by : (b : Bool) (n k c : ℕ) (text : List ℕ) → is_mark c ≡ b → is_
     → Cells n k ((if b then codes "&#" ++ (decimal c ++ codes ";") else encode_utf8 c) ++ text)
 unfolding is_quiet
 mark_by true n k c text mark seen rest =
-    let inner = quiet_more n k (decimal c) (codes ";" ++ text) (digits_quiet (decimal c) (decimal_digits c (mark_small c mark))) (quiet_more n k (codes ";") text refl rest) in
+    let inner = quiet_more n k (decimal c) (codes ";" ++ text) (digits_quiet (decimal c) (decimal_digits c (mark_small c mark)))
+    (quiet_more n k (codes ";") text refl rest) in
     subst (Cells n k) (ap (λ t. codes "&#" ++ t) (sym (append_assoc (decimal c) (codes ";") text))) (quiet_more n k (codes "&#") _ refl inner)
 mark_by false n k c text mark seen rest =
     let bar : (c == 124) ≡ false = false_from_ne_true (c == 124) (λ same. true≢false (sym (ap is_mark (eqb-true c 124 same)) ∙ mark)) in
@@ -144,7 +145,9 @@ row_text n f text told rest =
     let place = code_more (n + 1) 3 (spot_text f) _ (place_seen f told) (cell_more (n + 1) 3 _ rule) in
     let level = quiet_more (n + 1) 2 (level_name f.level) _ (level_quiet f.level) (cell_more (n + 1) 2 _ place) in
     subst (Cells (n + 1) 0)
-    (sym (regroup (hit_cell f.hit) (level_name f.level) (code_of (spot_text f)) (codes " | ") (code_of f.rule) (code_of f.message) (code_of f.tool) (state_name f.state) (codes " |\n") text))
+    (sym
+    (regroup (hit_cell f.hit) (level_name f.level) (code_of (spot_text f)) (codes " | ") (code_of f.rule) (code_of f.message)
+    (code_of f.tool) (state_name f.state) (codes " |\n") text))
     (hit_more (n + 1) f.hit _ level)
 
 all_rows : (fs : List Finding) → AllByRecursion IsTold fs → Cells (length fs) 0 (flat_map result_row fs)

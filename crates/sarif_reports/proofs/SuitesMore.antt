@@ -33,8 +33,10 @@ is_other tool s = not (bytes_eq tool s.0)
 others_kept : (b : Bool) (g : Finding) (gs : List Finding) (t : List ℕ) (ts : List (List ℕ)) → bytes_eq g.tool t ≡ b
     → map (λ tool. (tool, results_of (g ∷ gs) tool)) (filter (λ tool. not (bytes_eq g.tool tool)) ts)
     ≡ filter (is_other g.tool) (map (λ tool. (tool, results_of gs tool)) ts)
-    → map (λ tool. (tool, results_of (g ∷ gs) tool)) (cond (not b) (t ∷ filter (λ tool. not (bytes_eq g.tool tool)) ts) (filter (λ tool. not (bytes_eq g.tool tool)) ts))
-    ≡ cond (not b) ((t, results_of gs t) ∷ filter (is_other g.tool) (map (λ tool. (tool, results_of gs tool)) ts)) (filter (is_other g.tool) (map (λ tool. (tool, results_of gs tool)) ts))
+    → map (λ tool. (tool, results_of (g ∷ gs) tool))
+    (cond (not b) (t ∷ filter (λ tool. not (bytes_eq g.tool tool)) ts) (filter (λ tool. not (bytes_eq g.tool tool)) ts))
+    ≡ cond (not b) ((t, results_of gs t) ∷ filter (is_other g.tool) (map (λ tool. (tool, results_of gs tool)) ts))
+    (filter (is_other g.tool) (map (λ tool. (tool, results_of gs tool)) ts))
 others_kept true g gs t ts e rest = rest
 others_kept false g gs t ts e rest =
     let back : bytes_eq t g.tool ≡ false = apart_back g.tool t e in
@@ -135,7 +137,8 @@ same_key a b = bytes_eq a.now b.now
 written_by : (b : Bool) (f : Finding) (tool : List ℕ) (e : Entry) (es : List Entry) (old new : Vec (Bor Finding) Global) → bytes_eq tool e.0.now ≡ b
     → pointed new.items ≡ pointed old.items ++ f ∷ []
     → cond b (Some e.1) (lookup (λ key. bytes_eq tool key.now) es) ≡ Some old
-    → (lookup (λ key. bytes_eq tool key.now) es ≡ Some old → map seen_suite (set_value (λ key. bytes_eq tool key.now) es new) ≡ with_result f (map seen_suite es))
+    → (lookup (λ key. bytes_eq tool key.now) es ≡ Some old
+    → map seen_suite (set_value (λ key. bytes_eq tool key.now) es new) ≡ with_result f (map seen_suite es))
     → map seen_suite (cond b ((e.0, new) ∷ es) (e ∷ set_value (λ key. bytes_eq tool key.now) es new))
     ≡ (if b then (e.0.now, pointed e.1.items ++ f ∷ []) ∷ map seen_suite es else seen_suite e ∷ with_result f (map seen_suite es))
 written_by true f tool e es old new test items found rest =

@@ -40,7 +40,8 @@ rows_by : (b : Bool) (f : Finding) (fs : List Finding) (room : ℕ) → nat_le (
     → length (flat_map result_row (if b then f ∷ fs else [])) ≤ room
 rows_by true f fs room e rest =
     let fits : length (result_row f) ≤ room = leb-true (length (result_row f)) room e in
-    let whole : length (result_row f ++ flat_map result_row fs) ≡ length (result_row f) + length (flat_map result_row fs) = length-append (result_row f) (flat_map result_row fs) in
+    let whole : length (result_row f ++ flat_map result_row fs) ≡ length (result_row f) + length (flat_map result_row fs) =
+    length-append (result_row f) (flat_map result_row fs) in
     omega (arith, fits, rest, whole)
 rows_by false f fs room e rest = omega arith
 

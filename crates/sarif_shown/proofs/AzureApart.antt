@@ -114,7 +114,8 @@ path_read : (path : Option (List ℕ)) → Reads (one_if_some path) (source_path
 path_read None = reads_none [] refl
 path_read (Some path) = property_read (codes "sourcepath=") path refl
 
-number_read : (name : List ℕ) (o : Option ℕ) → list_all is_within_property name ≡ true → IfSome o (λ k. k < 2 ^ 64) → Reads (one_if_some o) (issue_number name o)
+number_read : (name : List ℕ) (o : Option ℕ) → list_all is_within_property name ≡ true → IfSome o (λ k. k < 2 ^ 64)
+    → Reads (one_if_some o) (issue_number name o)
 number_read name None plain small = reads_none [] refl
 number_read name (Some k) plain small =
     then_reads (reads_none name plain) (then_reads (reads_none (decimal k) (digits_within (decimal k) (decimal_digits k small))) reads_end)
@@ -130,7 +131,8 @@ all_read f told =
     (then_reads (number_read (codes "columnnumber=") f.column refl told.column) (code_read f.rule))))
 
 -- what follows a `]` is not read
-begun_read : (properties message : List ℕ) → properties_read (issue_begin ++ (properties ++ (codes "]" ++ message))) ≡ properties_read (properties ++ (codes "]" ++ message))
+begun_read : (properties message : List ℕ)
+    → properties_read (issue_begin ++ (properties ++ (codes "]" ++ message))) ≡ properties_read (properties ++ (codes "]" ++ message))
 unfolding issue_begin
 begun_read properties message = refl
 
@@ -248,7 +250,8 @@ named_text : (w : ℕ) (ws shows text : List ℕ) → list_all is_plain (w ∷ w
 unfolding property
 named_text w ws shows text plain is rest =
     subst NextText
-    (ap (λ t. (w ∷ ws) ++ t) (sym (append_assoc (escaped IssueProperty shows) (codes ";") text)) ∙ sym (append_assoc (w ∷ ws) (escaped IssueProperty shows ++ codes ";") text))
+    (ap (λ t. (w ∷ ws) ++ t) (sym (append_assoc (escaped IssueProperty shows) (codes ";") text))
+    ∙ sym (append_assoc (w ∷ ws) (escaped IssueProperty shows ++ codes ";") text))
     (plain_next w ws _ plain (property_text shows (codes ";" ++ text) is (plain_next 59 [] text refl rest)))
 
 path_text : (path : Option (List ℕ)) (text : List ℕ) → IfSome path IsPath → NextText text → NextText (source_path path ++ text)

@@ -16,7 +16,13 @@ use Rattle.sarif_findings.proofs.HighBytes.{high_apart, char_kept}
 
 page_high : (b : ℕ) (rest : List ℕ) → 128 ≤ b → is_element_text rest ≡ true → is_element_text (b ∷ rest) ≡ true
 page_high b rest high h =
-    rw (high_apart b 60 high (omega arith), high_apart b 62 high (omega arith), high_apart b 34 high (omega arith), high_apart b 39 high (omega arith), high_apart b 38 high (omega arith)) h
+    rw (
+      high_apart b 60 high (omega arith),
+      high_apart b 62 high (omega arith),
+      high_apart b 34 high (omega arith),
+      high_apart b 39 high (omega arith),
+      high_apart b 38 high (omega arith),
+    ) h
 
 page_low : (c : ℕ) (rest : List ℕ) → (c == 38) ≡ false → (c == 60) ≡ false → (c == 62) ≡ false → (c == 34) ≡ false → (c == 39) ≡ false
     → is_element_text rest ≡ true → is_element_text (c ∷ rest) ≡ true

@@ -60,7 +60,8 @@ as_it_stands Markdown c h = rw h refl
 as_it_stands Page c h =
     five_ways (c == 38) (c == 60) (c == 62) (c == 34) (c == 39) (codes "&amp;") (codes "&lt;") (codes "&gt;") (codes "&quot;") (codes "&#39;") (encode_utf8 c) h
 as_it_stands Place c h =
-    six_ways (c == 47) (c == 38) (c == 60) (c == 62) (c == 34) (c == 39) (codes "/<wbr>") (codes "&amp;") (codes "&lt;") (codes "&gt;") (codes "&quot;") (codes "&#39;") (encode_utf8 c) h
+    six_ways (c == 47) (c == 38) (c == 60) (c == 62) (c == 34) (c == 39) (codes "/<wbr>") (codes "&amp;") (codes "&lt;") (codes "&gt;")
+    (codes "&quot;") (codes "&#39;") (encode_utf8 c) h
 as_it_stands IssueMessage c h = rw h refl
 as_it_stands IssueProperty c h = three_ways (c == 37) (c == 59) (c == 93) (codes "%AZP25") (codes "%3B") (codes "%5D") (encode_utf8 c) h
 

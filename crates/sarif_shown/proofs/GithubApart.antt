@@ -78,7 +78,8 @@ properties_more n (c ∷ cs) text seen rest =
     subst (Inner n) (sym (append_assoc (property_char c) (flat_map (escaped_char Property) cs) text))
     (property_more (c == 37) (c == 58) (c == 44) n c _ parts.0 (properties_more n cs text parts.1 rest))
 
-pub escaped_shown : (way : Escaping) (cs shows : List ℕ) → shows ≡ encode_utf8_all (shown_chars cs) → escaped way shows ≡ flat_map (escaped_char way) (shown_chars cs)
+pub escaped_shown : (way : Escaping) (cs shows : List ℕ) → shows ≡ encode_utf8_all (shown_chars cs)
+    → escaped way shows ≡ flat_map (escaped_char way) (shown_chars cs)
 unfolding escaped
 escaped_shown way cs shows e = ap (λ t. flat_map (escaped_char way) (chars t)) e ∙ ap (flat_map (escaped_char way)) (chars_back (shown_chars cs))
 
@@ -150,7 +151,9 @@ line_text n f text told lines =
     let line = number_text (n + 1) (codes "line=") f.line _ refl told.line column in
     let file = file_text (n + 1) f.path _ told.path line in
     subst (Lines (n + 1))
-    (sym (regroup (command_of f.level) (file_property f.path) (number_property (codes "line=") f.line) (number_property (codes "col=") f.column) (codes "title=") (title f.rule f.tool) (codes "::") (escaped Message f.message) (codes "\n") text))
+    (sym
+    (regroup (command_of f.level) (file_property f.path) (number_property (codes "line=") f.line) (number_property (codes "col=") f.column)
+    (codes "title=") (title f.rule f.tool) (codes "::") (escaped Message f.message) (codes "\n") text))
     (command_line (n + 1) f.level _ file)
 
 all_lines : (fs : List Finding) → AllByRecursion IsTold fs → Lines (length fs) (flat_map github_line fs)

@@ -53,16 +53,20 @@ four_kept p a b c d e f g h ae bf cg dh =
 level_kept : (hit : Bool) (l : Level) (fs : List Finding) → filter (stands hit l) (by_level fs) ≡ filter (stands hit l) fs
 unfolding by_level
 level_kept hit Error fs =
-    four_kept (stands hit Error) _ _ _ _ _ _ _ _ (own_level hit Error fs) (other_level hit Error Warning fs refl) (other_level hit Error Note fs refl) (other_level hit Error NoLevel fs refl)
+    four_kept (stands hit Error) _ _ _ _ _ _ _ _ (own_level hit Error fs) (other_level hit Error Warning fs refl)
+    (other_level hit Error Note fs refl) (other_level hit Error NoLevel fs refl)
     ∙ append-nil (filter (stands hit Error) fs)
 level_kept hit Warning fs =
-    four_kept (stands hit Warning) _ _ _ _ _ _ _ _ (other_level hit Warning Error fs refl) (own_level hit Warning fs) (other_level hit Warning Note fs refl) (other_level hit Warning NoLevel fs refl)
+    four_kept (stands hit Warning) _ _ _ _ _ _ _ _ (other_level hit Warning Error fs refl) (own_level hit Warning fs)
+    (other_level hit Warning Note fs refl) (other_level hit Warning NoLevel fs refl)
     ∙ append-nil (filter (stands hit Warning) fs)
 level_kept hit Note fs =
-    four_kept (stands hit Note) _ _ _ _ _ _ _ _ (other_level hit Note Error fs refl) (other_level hit Note Warning fs refl) (own_level hit Note fs) (other_level hit Note NoLevel fs refl)
+    four_kept (stands hit Note) _ _ _ _ _ _ _ _ (other_level hit Note Error fs refl) (other_level hit Note Warning fs refl)
+    (own_level hit Note fs) (other_level hit Note NoLevel fs refl)
     ∙ append-nil (filter (stands hit Note) fs)
 level_kept hit NoLevel fs =
-    four_kept (stands hit NoLevel) _ _ _ _ _ _ _ _ (other_level hit NoLevel Error fs refl) (other_level hit NoLevel Warning fs refl) (other_level hit NoLevel Note fs refl) (own_level hit NoLevel fs)
+    four_kept (stands hit NoLevel) _ _ _ _ _ _ _ _ (other_level hit NoLevel Error fs refl) (other_level hit NoLevel Warning fs refl)
+    (other_level hit NoLevel Note fs refl) (own_level hit NoLevel fs)
 
 pub standing_kept : (hit : Bool) (l : Level) (fs : List Finding) → of_standing hit l (listed fs) ≡ of_standing hit l fs
 standing_kept true l fs =

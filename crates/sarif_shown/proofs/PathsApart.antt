@@ -77,7 +77,8 @@ some_named (b ∷ bs) h = h
 
 path_named : (roots : List (List ℕ)) (o : Option (List ℕ)) → IfSome (option_and_then (shown_path roots) o) (λ path. starts_here (chars path) ≡ false)
 path_named roots None = tt
-path_named roots (Some uri) = some_named (shown (path_chars roots uri)) (text_named (path_chars roots uri) (without_named (chars (without_root roots (decoded uri)))))
+path_named roots (Some uri) =
+    some_named (shown (path_chars roots uri)) (text_named (path_chars roots uri) (without_named (chars (without_root roots (decoded uri)))))
 
 finding_named : (reporting : Reporting) (run result : Data) (l : Level) (s : State) → IsNamed (finding_of reporting run result l s)
 unfolding finding_of

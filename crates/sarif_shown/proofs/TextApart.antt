@@ -200,7 +200,8 @@ bracket_text : (n : ℕ) (rule text : List ℕ) → IsShown rule → AnywhereTex
 bracket_text n [] text is rest = rest
 bracket_text n (b ∷ bs) text is rest =
     let inner = shown_text n (b ∷ bs) (codes "]" ++ text) is (plain_more_text n (codes "]") text refl rest) in
-    subst (AnywhereText n) (ap (λ t. codes " [" ++ t) (sym (append_assoc (b ∷ bs) (codes "]") text))) (plain_text n 32 (91 ∷ []) ((b ∷ bs) ++ (codes "]" ++ text)) refl inner)
+    subst (AnywhereText n) (ap (λ t. codes " [" ++ t) (sym (append_assoc (b ∷ bs) (codes "]") text)))
+    (plain_text n 32 (91 ∷ []) ((b ∷ bs) ++ (codes "]" ++ text)) refl inner)
 
 ends_text : (n : ℕ) (text : List ℕ) → IsTextOfLines n text → AnywhereText (n + 1) (10 ∷ text)
 ends_text n text h = (10 ∷ h.0, ap₂ (λ x y. x ++ y) (encode_ascii 10 (omega arith)) h.1, line_ends n h.0 h.2)
@@ -209,7 +210,10 @@ ends_text n text h = (10 ∷ h.0, ap₂ (λ x y. x ++ y) (encode_ascii 10 (omega
 
 abbrev rest_of_line : Finding → List ℕ → List ℕ
 rest_of_line f text =
-    codes ": " ++ (level_name f.level ++ (codes ": " ++ (f.message ++ (bracketed f.rule ++ (codes " (" ++ (f.tool ++ (codes ", " ++ (state_name f.state ++ (codes ")\n" ++ text)))))))))
+    codes ": "
+    ++ (level_name f.level
+    ++ (codes ": "
+    ++ (f.message ++ (bracketed f.rule ++ (codes " (" ++ (f.tool ++ (codes ", " ++ (state_name f.state ++ (codes ")\n" ++ text)))))))))
 
 rest_text : (n : ℕ) (f : Finding) (text : List ℕ) → IsTold f → IsTextOfLines n text → AnywhereText (n + 1) (rest_of_line f text)
 rest_text n f text told lines =
@@ -257,7 +261,8 @@ place_line n None line column text p l c rest = literal_line n 45 [] text refl r
 place_line n (Some path) line column text p l c rest =
     let numbers = numbered_text n line _ l (numbered_text n column text c rest) in
     let whole = place_path_line (begins_with_colon path) n path _ refl p numbers in
-    let apart = append_assoc (place_path path) (numbered line ++ numbered column) text ∙ ap (λ t. place_path path ++ t) (append_assoc (numbered line) (numbered column) text) in
+    let apart = append_assoc (place_path path) (numbered line ++ numbered column) text
+    ∙ ap (λ t. place_path path ++ t) (append_assoc (numbered line) (numbered column) text) in
     subst (IsTextOfLines n) (sym apart) whole
 
 regroup : (p a l b m r o t c s e n text : List ℕ)
@@ -268,7 +273,9 @@ regroup p a l b m r o t c s e n text = simp append_assoc
 line_text : (n : ℕ) (f : Finding) (text : List ℕ) → IsTold f → IsTextOfLines n text → IsTextOfLines (n + 1) (text_line f ++ text)
 line_text n f text told lines =
     subst (IsTextOfLines (n + 1))
-    (sym (regroup (spot_text f) (codes ": ") (level_name f.level) (codes ": ") f.message (bracketed f.rule) (codes " (") f.tool (codes ", ") (state_name f.state) (codes ")") (codes "\n") text))
+    (sym
+    (regroup (spot_text f) (codes ": ") (level_name f.level) (codes ": ") f.message (bracketed f.rule) (codes " (") f.tool (codes ", ")
+    (state_name f.state) (codes ")") (codes "\n") text))
     (place_line (n + 1) f.path f.line f.column (rest_of_line f text) told.path told.line told.column (rest_text n f text told lines))
 
 all_lines : (fs : List Finding) → AllByRecursion IsTold fs → IsTextOfLines (length fs) (flat_map text_line fs)

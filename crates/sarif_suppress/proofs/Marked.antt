@@ -30,27 +30,36 @@ with_mark-append front mark rest n here =
     rw (here, lt-ltb _ _ within) (set-append_seam front mark rest true)
 
 -- the entries that match one result more
-with_marks-append : (was is : Entry → Bool) (front : List Bool) (n : ℕ) (es : List Entry) → n ≡ length front → with_marks (front ++ map was es) (numbers_from is n es) ≡ front ++ map (λ e. was e || is e) es
+with_marks-append : (was is : Entry → Bool) (front : List Bool) (n : ℕ) (es : List Entry) → n ≡ length front
+    → with_marks (front ++ map was es) (numbers_from is n es) ≡ front ++ map (λ e. was e || is e) es
 with_marks-append was is front n [] here = refl
 with_marks-append was is front n (e ∷ es) here =
     let marks : List Bool = map was es in
     let more : List Bool = map (λ x. was x || is x) es in
     let numbers : List ℕ = numbers_from is (n + 1) es in
     let longer : (b : Bool) → n + 1 ≡ length (front ++ b ∷ []) = λ b. omega (arith, length-append front (b ∷ [])) in
-    let next : (b : Bool) → with_marks (front ++ b ∷ marks) numbers ≡ front ++ b ∷ more = λ b. sym (ap (λ ms. with_marks ms numbers) (append_assoc front (b ∷ []) marks)) ∙ with_marks-append was is (front ++ b ∷ []) (n + 1) es (longer b) ∙ append_assoc front (b ∷ []) more in
+    let next : (b : Bool) → with_marks (front ++ b ∷ marks) numbers ≡ front ++ b ∷ more =
+    λ b. sym (ap (λ ms. with_marks ms numbers) (append_assoc front (b ∷ []) marks))
+    ∙ with_marks-append was is (front ++ b ∷ []) (n + 1) es (longer b) ∙ append_assoc front (b ∷ []) more in
     elim (is e) as (λ b. with_marks (front ++ was e ∷ marks) (if b then n ∷ numbers else numbers) ≡ front ++ (was e || b) ∷ more) [
       | true ↦ ap (λ ms. with_marks ms numbers) (with_mark-append front (was e) marks n here) ∙ next true ∙ sym (ap (λ b. front ++ b ∷ more) (or-true (was e)))
       | false ↦ next (was e) ∙ sym (ap (λ b. front ++ b ∷ more) (or-false (was e)))
     ]
 
-one_after : (file : File) (rs : List Record) (r : Record) (es : List Entry) → map (λ e. list_any (λ r. matches file.today e r) rs || matches file.today e r) es ≡ map (λ e. list_any (λ r. matches file.today e r) (rs ++ r ∷ [])) es
+one_after : (file : File) (rs : List Record) (r : Record) (es : List Entry)
+    → map (λ e. list_any (λ r. matches file.today e r) rs || matches file.today e r) es
+    ≡ map (λ e. list_any (λ r. matches file.today e r) (rs ++ r ∷ [])) es
 one_after file rs r [] = refl
 one_after file rs r (e ∷ es) =
-    let here : (list_any (λ r. matches file.today e r) rs || matches file.today e r) ≡ list_any (λ r. matches file.today e r) (rs ++ r ∷ []) = sym (list_any-append (λ r. matches file.today e r) rs (r ∷ []) ∙ ap (λ b. list_any (λ r. matches file.today e r) rs || b) (or-false (matches file.today e r))) in
+    let here : (list_any (λ r. matches file.today e r) rs || matches file.today e r)
+    ≡ list_any (λ r. matches file.today e r) (rs ++ r ∷ []) =
+    sym (list_any-append (λ r. matches file.today e r) rs (r ∷ [])
+    ∙ ap (λ b. list_any (λ r. matches file.today e r) rs || b) (or-false (matches file.today e r))) in
     rw (here, one_after file rs r es) refl
 
 -- the marks of some results, with those of the entries that match one more
-pub one_more : (old new : List Bool) (numbers : List ℕ) (file : File) (rs : List Record) (r : Record) → new ≡ with_marks old numbers → old ≡ marks_of file rs → numbers ≡ matching_numbers file r → new ≡ marks_of file (rs ++ r ∷ [])
+pub one_more : (old new : List Bool) (numbers : List ℕ) (file : File) (rs : List Record) (r : Record) → new ≡ with_marks old numbers
+    → old ≡ marks_of file rs → numbers ≡ matching_numbers file r → new ≡ marks_of file (rs ++ r ∷ [])
 one_more old new numbers file rs r set was found =
     set
     ∙ rw (was, found) (with_marks-append (λ e. list_any (λ r. matches file.today e r) rs) (λ e. matches file.today e r) [] 0 file.entries refl)

@@ -18,7 +18,7 @@ use Rattle.serde_json.specs.Data.{Data}
 
 -- ---- the entry of a number
 
--- these are in the whole list from number n on
+-- the whole list has these entries from number n on
 abbrev pub IsPart : List Entry → ℕ → List Entry → Type 0
 IsPart whole n [] = Unit {0}
 IsPart whole n (e ∷ es) = (slice_get whole n ≡ Some e) × IsPart whole (n + 1) es
@@ -29,7 +29,8 @@ IsPart-append front [] = tt
 IsPart-append front (e ∷ es) =
     let next : length front + 1 ≡ length (front ++ e ∷ []) = sym (length-append front (e ∷ [])) in
     let within : length front < length (front ++ e ∷ es) = omega (arith, length-append front (e ∷ es)) in
-    let here : slice_get (front ++ e ∷ es) (length front) ≡ Some e = slice_get-get_or (front ++ e ∷ es) (length front) e within ∙ ap Some (get_or-append_seam front e es e) in
+    let here : slice_get (front ++ e ∷ es) (length front) ≡ Some e = slice_get-get_or (front ++ e ∷ es) (length front) e within
+    ∙ ap Some (get_or-append_seam front e es e) in
     let rest : IsPart ((front ++ e ∷ []) ++ es) (length (front ++ e ∷ [])) es = IsPart-append (front ++ e ∷ []) es in
     (here, rw next (rw append_assoc at rest))
 
@@ -39,19 +40,25 @@ whole_is_part es = IsPart-append [] es
 
 -- ---- the verdict
 
-pub all_numbers : (test picked : Entry → Bool) (whole : List Entry) (n : ℕ) (es : List Entry) → IsPart whole n es → list_all (passes_at test whole) (numbers_from picked n es) ≡ list_all test (filter picked es)
+pub all_numbers : (test picked : Entry → Bool) (whole : List Entry) (n : ℕ) (es : List Entry) → IsPart whole n es
+    → list_all (passes_at test whole) (numbers_from picked n es) ≡ list_all test (filter picked es)
 all_numbers test picked whole n [] part = refl
 all_numbers test picked whole n (e ∷ es) part =
-    let rest : list_all (passes_at test whole) (numbers_from picked (n + 1) es) ≡ list_all test (filter picked es) = all_numbers test picked whole (n + 1) es part.1 in
-    elim (picked e) as (λ b. list_all (passes_at test whole) (if b then n ∷ numbers_from picked (n + 1) es else numbers_from picked (n + 1) es) ≡ list_all test (if b then e ∷ filter picked es else filter picked es)) [
+    let rest : list_all (passes_at test whole) (numbers_from picked (n + 1) es) ≡ list_all test (filter picked es) =
+    all_numbers test picked whole (n + 1) es part.1 in
+    elim (picked e) as
+    (λ b. list_all (passes_at test whole) (if b then n ∷ numbers_from picked (n + 1) es else numbers_from picked (n + 1) es)
+    ≡ list_all test (if b then e ∷ filter picked es else filter picked es)) [
       | true ↦ rw (part.0, rest) refl
       | false ↦ rest
     ]
 
-none_numbers : {A : Type 0} (f : Entry → A) (picked : Entry → Bool) (n : ℕ) (es : List Entry) → is_empty (numbers_from picked n es) ≡ is_empty (map f (filter picked es))
+none_numbers : {A : Type 0} (f : Entry → A) (picked : Entry → Bool) (n : ℕ) (es : List Entry)
+    → is_empty (numbers_from picked n es) ≡ is_empty (map f (filter picked es))
 none_numbers f picked n [] = refl
 none_numbers f picked n (e ∷ es) =
-    elim (picked e) as (λ b. is_empty (if b then n ∷ numbers_from picked (n + 1) es else numbers_from picked (n + 1) es) ≡ is_empty (map f (if b then e ∷ filter picked es else filter picked es))) [
+    elim (picked e) as (λ b. is_empty (if b then n ∷ numbers_from picked (n + 1) es else numbers_from picked (n + 1) es)
+    ≡ is_empty (map f (if b then e ∷ filter picked es else filter picked es))) [
       | true ↦ refl
       | false ↦ none_numbers f picked (n + 1) es
     ]
@@ -69,22 +76,33 @@ unless true b = refl
 unless false b = refl
 
 -- the statuses of the result and of the entries with these numbers, as one list
-pub verdict : (held : List Status) (picked : Entry → Bool) (entries : List Entry) → (if is_empty held && is_empty (numbers_from picked 0 entries) then false else (list_all is_accepted held && list_all (passes_at (λ e. is_accepted e.status) entries) (numbers_from picked 0 entries))) ≡ statuses_suppress (held ++ map (λ e. e.status) (filter picked entries))
+pub verdict : (held : List Status) (picked : Entry → Bool) (entries : List Entry)
+    → (if is_empty held && is_empty (numbers_from picked 0 entries) then false else
+    (list_all is_accepted held && list_all (passes_at (λ e. is_accepted e.status) entries) (numbers_from picked 0 entries)))
+    ≡ statuses_suppress (held ++ map (λ e. e.status) (filter picked entries))
 verdict held picked entries =
-    let theirs : list_all (passes_at (λ e. is_accepted e.status) entries) (numbers_from picked 0 entries) ≡ list_all is_accepted (map (λ e. e.status) (filter picked entries)) = all_numbers (λ e. is_accepted e.status) picked entries 0 entries (whole_is_part entries) ∙ sym (list_all-map is_accepted (λ e. e.status) (filter picked entries)) in
-    let none : is_empty (numbers_from picked 0 entries) ≡ is_empty (map (λ e. e.status) (filter picked entries)) = none_numbers (λ e. e.status) picked 0 entries in
+    let theirs : list_all (passes_at (λ e. is_accepted e.status) entries) (numbers_from picked 0 entries)
+    ≡ list_all is_accepted (map (λ e. e.status) (filter picked entries)) =
+    all_numbers (λ e. is_accepted e.status) picked entries 0 entries (whole_is_part entries)
+    ∙ sym (list_all-map is_accepted (λ e. e.status) (filter picked entries)) in
+    let none : is_empty (numbers_from picked 0 entries) ≡ is_empty (map (λ e. e.status) (filter picked entries)) =
+    none_numbers (λ e. e.status) picked 0 entries in
     rw (unless, none, theirs, is_empty-append, list_all-append) refl
 
 -- ---- what is written
 
-written_from : (picked : Entry → Bool) (whole : List Entry) (list : List Data) (n : ℕ) (es : List Entry) → IsPart whole n es → with_objects_at list whole (numbers_from picked n es) ≡ with_objects list (filter picked es)
+written_from : (picked : Entry → Bool) (whole : List Entry) (list : List Data) (n : ℕ) (es : List Entry) → IsPart whole n es
+    → with_objects_at list whole (numbers_from picked n es) ≡ with_objects list (filter picked es)
 written_from picked whole list n [] part = refl
 written_from picked whole list n (e ∷ es) part =
-    elim (picked e) as (λ b. with_objects_at list whole (if b then n ∷ numbers_from picked (n + 1) es else numbers_from picked (n + 1) es) ≡ with_objects list (if b then e ∷ filter picked es else filter picked es)) [
-      | true ↦ ap (λ o. with_objects_at (with_object_if list o) whole (numbers_from picked (n + 1) es)) part.0 ∙ written_from picked whole (with_object list e) (n + 1) es part.1
+    elim (picked e) as (λ b. with_objects_at list whole (if b then n ∷ numbers_from picked (n + 1) es else numbers_from picked (n + 1) es)
+    ≡ with_objects list (if b then e ∷ filter picked es else filter picked es)) [
+      | true ↦ ap (λ o. with_objects_at (with_object_if list o) whole (numbers_from picked (n + 1) es)) part.0
+          ∙ written_from picked whole (with_object list e) (n + 1) es part.1
       | false ↦ written_from picked whole list (n + 1) es part.1
     ]
 
 -- the objects of the entries with these numbers are those of the entries themselves
-pub written : (picked : Entry → Bool) (list : List Data) (entries : List Entry) → with_objects_at list entries (numbers_from picked 0 entries) ≡ with_objects list (filter picked entries)
+pub written : (picked : Entry → Bool) (list : List Data) (entries : List Entry)
+    → with_objects_at list entries (numbers_from picked 0 entries) ≡ with_objects list (filter picked entries)
 written picked list entries = written_from picked entries list 0 entries (whole_is_part entries)

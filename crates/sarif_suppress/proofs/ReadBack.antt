@@ -28,10 +28,18 @@ passes test (Err fault) = false
 -- the status of an entry's object is the entry's
 object_status : (e : Entry) → status_of (object_of e) ≡ Ok e.status
 object_status e =
-    elim e.status as (λ s. status_of (object_of (record { conditions = e.conditions; expires = e.expires; status = s; justification = e.justification })) ≡ Ok s) [
-      | Accepted ↦ elim e.justification as (λ j. status_of (object_of (record { conditions = e.conditions; expires = e.expires; status = Accepted; justification = j })) ≡ Ok Accepted) [ None ↦ refl | Some text ↦ refl ]
-      | UnderReview ↦ elim e.justification as (λ j. status_of (object_of (record { conditions = e.conditions; expires = e.expires; status = UnderReview; justification = j })) ≡ Ok UnderReview) [ None ↦ refl | Some text ↦ refl ]
-      | Rejected ↦ elim e.justification as (λ j. status_of (object_of (record { conditions = e.conditions; expires = e.expires; status = Rejected; justification = j })) ≡ Ok Rejected) [ None ↦ refl | Some text ↦ refl ]
+    elim e.status as
+    (λ s. status_of (object_of (record { conditions = e.conditions; expires = e.expires; status = s; justification = e.justification }))
+    ≡ Ok s) [
+      | Accepted ↦ elim e.justification as
+          (λ j. status_of (object_of (record { conditions = e.conditions; expires = e.expires; status = Accepted; justification = j }))
+          ≡ Ok Accepted) [ None ↦ refl | Some text ↦ refl ]
+      | UnderReview ↦ elim e.justification as
+          (λ j. status_of (object_of (record { conditions = e.conditions; expires = e.expires; status = UnderReview; justification = j }))
+          ≡ Ok UnderReview) [ None ↦ refl | Some text ↦ refl ]
+      | Rejected ↦ elim e.justification as
+          (λ j. status_of (object_of (record { conditions = e.conditions; expires = e.expires; status = Rejected; justification = j }))
+          ≡ Ok Rejected) [ None ↦ refl | Some text ↦ refl ]
     ]
 
 -- values from which these statuses are read
@@ -43,7 +51,8 @@ record AreRead (ds : List Data) (statuses : List Status) : Type 0 where
 ok_same : (a b : List Status) → ◌≡◌ {A = Result (List Status) Fault} (Ok a) (Ok b) → a ≡ b
 ok_same a b e = cc
 
-one_more : (d : Data) (ds : List Data) (status : Status) (statuses : List Status) → status_of d ≡ Ok status → AreRead ds statuses → AreRead (d ∷ ds) (status ∷ statuses)
+one_more : (d : Data) (ds : List Data) (status : Status) (statuses : List Status) → status_of d ≡ Ok status → AreRead ds statuses
+    → AreRead (d ∷ ds) (status ∷ statuses)
 one_more d ds status statuses is are = record {
   read = ap (λ s. s >>= λ y. result_map (λ ys. y ∷ ys) (read_each status_of ds)) is ∙ ap (λ ss. result_map (λ ys. status ∷ ys) ss) are.read;
   tests = λ test. rw (is, are.tests test) refl;
@@ -54,7 +63,8 @@ one_more d ds status statuses is are = record {
 are_read : (ds : List Data) → list_all (λ d. passes (λ _. true) (status_of d)) ds ≡ true → (statuses : List Status) × AreRead ds statuses
 are_read [] all = ([], record { read = refl; tests = λ _. refl; none = refl })
 are_read (d ∷ ds) all =
-    elim (status_of d) as (λ s. status_of d ≡ s → (passes (λ _. true) s && list_all (λ d. passes (λ _. true) (status_of d)) ds) ≡ true → (statuses : List Status) × AreRead (d ∷ ds) statuses) [
+    elim (status_of d) as (λ s. status_of d ≡ s → (passes (λ _. true) s && list_all (λ d. passes (λ _. true) (status_of d)) ds) ≡ true
+    → (statuses : List Status) × AreRead (d ∷ ds) statuses) [
       | Ok status ↦ λ is rest.
           let more : (statuses : List Status) × AreRead ds statuses = are_read ds rest in
           (status ∷ more.0, one_more d ds status more.0 is more.1)
@@ -91,14 +101,19 @@ pub empty_map : (es : List Entry) → is_empty es ≡ is_empty (map (λ e. e.sta
 empty_map [] = refl
 empty_map (e ∷ es) = refl
 
-pub read_back : (own : List Data) (file : File) (r : Record) → read_each status_of own ≡ Ok r.held → result_map statuses_suppress (read_each status_of (suppressions_of own file r)) ≡ Ok (is_suppressed file r)
+pub read_back : (own : List Data) (file : File) (r : Record) → read_each status_of own ≡ Ok r.held
+    → result_map statuses_suppress (read_each status_of (suppressions_of own file r)) ≡ Ok (is_suppressed file r)
 read_back own file r held =
     let es : List Entry = matching file r in
     let mine : AreRead own r.held = were_read own r.held held in
-    let reads : list_all (λ d. passes (λ _. true) (status_of d)) (with_objects own es) ≡ true = written_passes (λ d. passes (λ _. true) (status_of d)) own es ∙ and_from _ _ (mine.tests (λ _. true) ∙ always r.held) (all_true es) in
+    let reads : list_all (λ d. passes (λ _. true) (status_of d)) (with_objects own es) ≡ true =
+    written_passes (λ d. passes (λ _. true) (status_of d)) own es ∙ and_from _ _ (mine.tests (λ _. true) ∙ always r.held) (all_true es) in
     let written : (statuses : List Status) × AreRead (with_objects own es) statuses = are_read (with_objects own es) reads in
-    let accepted : list_all is_accepted written.0 ≡ list_all is_accepted (r.held ++ map (λ e. e.status) es) = sym (written.1.tests is_accepted) ∙ written_passes (λ d. passes is_accepted (status_of d)) own es ∙ rw (mine.tests is_accepted, objects_pass is_accepted es) (sym (list_all-append is_accepted r.held (map (λ e. e.status) es))) in
-    let none : is_empty written.0 ≡ is_empty (r.held ++ map (λ e. e.status) es) = sym written.1.none ∙ written_empty own es ∙ rw (mine.none, empty_map es) (sym (is_empty-append r.held (map (λ e. e.status) es))) in
+    let accepted : list_all is_accepted written.0 ≡ list_all is_accepted (r.held ++ map (λ e. e.status) es) =
+    sym (written.1.tests is_accepted) ∙ written_passes (λ d. passes is_accepted (status_of d)) own es
+    ∙ rw (mine.tests is_accepted, objects_pass is_accepted es) (sym (list_all-append is_accepted r.held (map (λ e. e.status) es))) in
+    let none : is_empty written.0 ≡ is_empty (r.held ++ map (λ e. e.status) es) = sym written.1.none ∙ written_empty own es
+    ∙ rw (mine.none, empty_map es) (sym (is_empty-append r.held (map (λ e. e.status) es))) in
     ap (result_map statuses_suppress) written.1.read ∙ ap Ok (rw (none, accepted) refl)
   where
     always : (statuses : List Status) → list_all (λ _. true) statuses ≡ true

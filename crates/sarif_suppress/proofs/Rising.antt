@@ -71,25 +71,33 @@ other_number n m b below = ap (λ c. c || b) (differ n m below)
     differ n m below = grind (arith, nat_tests)
 
 -- one number more is picked
-insert_picks : {A : Type 0} (q : ℕ → Bool) (n s : ℕ) (xs : List A) → s ≤ n → n < s + length xs → insert_key nat_cmp (picks q s xs) n ≡ picks (λ m. nat_eq n m || q m) s xs
+insert_picks : {A : Type 0} (q : ℕ → Bool) (n s : ℕ) (xs : List A) → s ≤ n → n < s + length xs
+    → insert_key nat_cmp (picks q s xs) n ≡ picks (λ m. nat_eq n m || q m) s xs
 insert_picks q n s [] low high = absurd (omega arith)
 insert_picks q n s (x ∷ xs) low high =
     ⊎_elim (λ below. later below (insert_picks q n (s + 1) xs (omega arith) (omega (arith, high)))) (λ past. here (omega arith)) (cases_lt s n)
   where
     here : s ≡ n → insert_key nat_cmp (picks q s (x ∷ xs)) n ≡ picks (λ m. nat_eq n m || q m) s (x ∷ xs)
     here at =
-        let rest : picks q (n + 1) xs ≡ picks (λ m. nat_eq n m || q m) (n + 1) xs = picks_same q (λ m. nat_eq n m || q m) (n + 1) xs (λ m above. eq_above n m above (q m)) in
+        let rest : picks q (n + 1) xs ≡ picks (λ m. nat_eq n m || q m) (n + 1) xs =
+        picks_same q (λ m. nat_eq n m || q m) (n + 1) xs (λ m above. eq_above n m above (q m)) in
         rw (at, same_number n (q n)) (
         elim (q n) as (λ b. insert_key nat_cmp (if b then n ∷ picks q (n + 1) xs else picks q (n + 1) xs) n ≡ n ∷ picks (λ m. nat_eq n m || q m) (n + 1) xs) [
-          | true ↦ ap (λ o. match_ordering o (n ∷ (n ∷ picks q (n + 1) xs)) (n ∷ picks q (n + 1) xs) (n ∷ insert_key nat_cmp (picks q (n + 1) xs) n)) (cmp-same n) ∙ ap (λ ns. n ∷ ns) rest
+          | true ↦ ap
+              (λ o. match_ordering o (n ∷ (n ∷ picks q (n + 1) xs)) (n ∷ picks q (n + 1) xs) (n ∷ insert_key nat_cmp (picks q (n + 1) xs) n))
+              (cmp-same n) ∙ ap (λ ns. n ∷ ns) rest
           | false ↦ insert_first n (picks q (n + 1) xs) (picks_start q n (n + 1) xs (omega arith)) ∙ ap (λ ns. n ∷ ns) rest
         ])
 
-    later : s < n → insert_key nat_cmp (picks q (s + 1) xs) n ≡ picks (λ m. nat_eq n m || q m) (s + 1) xs → insert_key nat_cmp (picks q s (x ∷ xs)) n ≡ picks (λ m. nat_eq n m || q m) s (x ∷ xs)
+    later : s < n → insert_key nat_cmp (picks q (s + 1) xs) n ≡ picks (λ m. nat_eq n m || q m) (s + 1) xs
+        → insert_key nat_cmp (picks q s (x ∷ xs)) n ≡ picks (λ m. nat_eq n m || q m) s (x ∷ xs)
     later below rest =
         rw (other_number n s (q s) below) (
-        elim (q s) as (λ b. insert_key nat_cmp (if b then s ∷ picks q (s + 1) xs else picks q (s + 1) xs) n ≡ (if b then s ∷ picks (λ m. nat_eq n m || q m) (s + 1) xs else picks (λ m. nat_eq n m || q m) (s + 1) xs)) [
-          | true ↦ ap (λ o. match_ordering o (n ∷ (s ∷ picks q (s + 1) xs)) (s ∷ picks q (s + 1) xs) (s ∷ insert_key nat_cmp (picks q (s + 1) xs) n)) (cmp-greater n s below) ∙ ap (λ ns. s ∷ ns) rest
+        elim (q s) as (λ b. insert_key nat_cmp (if b then s ∷ picks q (s + 1) xs else picks q (s + 1) xs) n
+        ≡ (if b then s ∷ picks (λ m. nat_eq n m || q m) (s + 1) xs else picks (λ m. nat_eq n m || q m) (s + 1) xs)) [
+          | true ↦ ap
+              (λ o. match_ordering o (n ∷ (s ∷ picks q (s + 1) xs)) (s ∷ picks q (s + 1) xs) (s ∷ insert_key nat_cmp (picks q (s + 1) xs) n))
+              (cmp-greater n s below) ∙ ap (λ ns. s ∷ ns) rest
           | false ↦ rest
         ])
 
@@ -101,12 +109,17 @@ passes_within test es n passes =
     ] refl passes
 
 -- the numbers of a list that pass, added to picked ones
-with_picks : (test : Entry → Bool) (es : List Entry) (q : ℕ → Bool) (ns : List ℕ) → with_numbers (picks q 0 es) (filter (passes_at test es) ns) ≡ picks (λ m. (has m ns && passes_at test es m) || q m) 0 es
+with_picks : (test : Entry → Bool) (es : List Entry) (q : ℕ → Bool) (ns : List ℕ)
+    → with_numbers (picks q 0 es) (filter (passes_at test es) ns) ≡ picks (λ m. (has m ns && passes_at test es m) || q m) 0 es
 with_picks test es q [] = refl
 with_picks test es q (n ∷ ns) =
-    elim (passes_at test es n) as (λ b. passes_at test es n ≡ b → with_numbers (picks q 0 es) (if b then n ∷ filter (passes_at test es) ns else filter (passes_at test es) ns) ≡ picks (λ m. ((nat_eq n m || has m ns) && passes_at test es m) || q m) 0 es) [
+    elim (passes_at test es n) as
+    (λ b. passes_at test es n ≡ b
+    → with_numbers (picks q 0 es) (if b then n ∷ filter (passes_at test es) ns else filter (passes_at test es) ns)
+    ≡ picks (λ m. ((nat_eq n m || has m ns) && passes_at test es m) || q m) 0 es) [
       | true ↦ λ passes.
-          ap (λ rising. with_numbers rising (filter (passes_at test es) ns)) (insert_picks q n 0 es (omega arith) (within n passes)) ∙ with_picks test es (λ m. nat_eq n m || q m) ns ∙ picks_same _ _ 0 es (λ m _. added m passes)
+          ap (λ rising. with_numbers rising (filter (passes_at test es) ns)) (insert_picks q n 0 es (omega arith) (within n passes))
+          ∙ with_picks test es (λ m. nat_eq n m || q m) ns ∙ picks_same _ _ 0 es (λ m _. added m passes)
       | false ↦ λ fails.
           with_picks test es q ns ∙ picks_same _ _ 0 es (λ m _. left_out m fails)
     ] refl
@@ -134,7 +147,8 @@ with_picks test es q (n ∷ ns) =
     out true false c false is = refl
     out false b c d is = refl
 
-    added : (m : ℕ) → passes_at test es n ≡ true → ((has m ns && passes_at test es m) || (nat_eq n m || q m)) ≡ (((nat_eq n m || has m ns) && passes_at test es m) || q m)
+    added : (m : ℕ) → passes_at test es n ≡ true
+        → ((has m ns && passes_at test es m) || (nat_eq n m || q m)) ≡ (((nat_eq n m || has m ns) && passes_at test es m) || q m)
     added m passes = put (nat_eq n m) (has m ns) (q m) (passes_at test es m) (by_number m true passes)
 
     left_out : (m : ℕ) → passes_at test es n ≡ false → ((has m ns && passes_at test es m) || q m) ≡ (((nat_eq n m || has m ns) && passes_at test es m) || q m)
@@ -145,13 +159,16 @@ none_picked n [] = refl
 none_picked n (x ∷ xs) = none_picked (n + 1) xs
 
 -- places are picked just as the entries there pass
-picks_entries : (q : ℕ → Bool) (test : Entry → Bool) (whole : List Entry) (n : ℕ) (es : List Entry) → ((m : ℕ) (e : Entry) → slice_get whole m ≡ Some e → q m ≡ test e) → IsPart whole n es → picks q n es ≡ numbers_from test n es
+picks_entries : (q : ℕ → Bool) (test : Entry → Bool) (whole : List Entry) (n : ℕ) (es : List Entry)
+    → ((m : ℕ) (e : Entry) → slice_get whole m ≡ Some e → q m ≡ test e) → IsPart whole n es → picks q n es ≡ numbers_from test n es
 picks_entries q test whole n [] same part = refl
 picks_entries q test whole n (e ∷ es) same part =
     rw (same n e part.0, picks_entries q test whole (n + 1) es same part.1) refl
 
 -- numbers among which are all those of entries that pass, put in order
-pub selected_from : (test : Entry → Bool) (es : List Entry) (ns : List ℕ) → ((n : ℕ) (e : Entry) → slice_get es n ≡ Some e → test e ≡ true → has n ns ≡ true) → with_numbers [] (filter (passes_at test es) ns) ≡ numbers_from test 0 es
+pub selected_from : (test : Entry → Bool) (es : List Entry) (ns : List ℕ)
+    → ((n : ℕ) (e : Entry) → slice_get es n ≡ Some e → test e ≡ true → has n ns ≡ true)
+    → with_numbers [] (filter (passes_at test es) ns) ≡ numbers_from test 0 es
 selected_from test es ns all =
     ap (λ s. with_numbers s (filter (passes_at test es) ns)) (none_picked 0 es)
     ∙ with_picks test es (λ _. false) ns
@@ -166,11 +183,14 @@ selected_from test es ns all =
     same m e is = rw is (holds (has m ns) (test e) (all m e is))
 
 -- one number more of a list is gone through
-pub found_step : (test : ℕ → Bool) (old new ns : List ℕ) (i n : ℕ) → i < length ns → n ≡ get_or ns i n → new ≡ (if test n then insert_key nat_cmp old n else old) → with_numbers new (filter test (drop (i + 1) ns)) ≡ with_numbers old (filter test (drop i ns))
+pub found_step : (test : ℕ → Bool) (old new ns : List ℕ) (i n : ℕ) → i < length ns → n ≡ get_or ns i n
+    → new ≡ (if test n then insert_key nat_cmp old n else old)
+    → with_numbers new (filter test (drop (i + 1) ns)) ≡ with_numbers old (filter test (drop i ns))
 found_step test old new ns i n within is added =
     let split : drop i ns ≡ n ∷ drop (i + 1) ns = drop_more ns i n within ∙ ap (λ m. m ∷ drop (i + 1) ns) (sym is) in
     rw (added, split) (
-    elim (test n) as (λ b. with_numbers (if b then insert_key nat_cmp old n else old) (filter test (drop (i + 1) ns)) ≡ with_numbers old (if b then n ∷ filter test (drop (i + 1) ns) else filter test (drop (i + 1) ns))) [ true ↦ refl | false ↦ refl ])
+    elim (test n) as (λ b. with_numbers (if b then insert_key nat_cmp old n else old) (filter test (drop (i + 1) ns))
+    ≡ with_numbers old (if b then n ∷ filter test (drop (i + 1) ns) else filter test (drop (i + 1) ns))) [ true ↦ refl | false ↦ refl ])
 
 pub get_or_any : (ns : List ℕ) (i a b : ℕ) → i < length ns → get_or ns i a ≡ get_or ns i b
 get_or_any [] i a b within = absurd (omega (arith, within))

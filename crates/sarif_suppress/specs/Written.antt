@@ -12,7 +12,7 @@ use Rattle.sarif_suppress.specs.Suppressing.{matching}
 abbrev pub with_object : List Data → Entry → List Data
 with_object list e = if list_any (is_object_of e) list then list else list ++ object_of e ∷ []
 
--- the same for entries in order
+-- the list with the objects of entries in order, each unless the list already contains an equal one
 abbrev pub with_objects : List Data → List Entry → List Data
 with_objects list [] = list
 with_objects list (e ∷ es) = with_objects (with_object list e) es
@@ -26,7 +26,7 @@ abbrev pub with_object_if : List Data → Option Entry → List Data
 with_object_if list None = list
 with_object_if list (Some e) = with_object list e
 
--- the same for the entries with these numbers
+-- the list with the objects of the entries with these numbers, in that order
 abbrev pub with_objects_at : List Data → List Entry → List ℕ → List Data
 with_objects_at list entries [] = list
 with_objects_at list entries (n ∷ ns) =

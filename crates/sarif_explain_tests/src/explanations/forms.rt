@@ -129,7 +129,7 @@ fn other_text_has_no_form(rt: HostRuntime) -> Result<(), Fail> {
         &b"PK\x05\x06"[..],
         &b"x<html>"[..],
         &b"\x0c"[..],
-        // A first line that is no JSON value, or one that nothing follows.
+        // A first line that is not a JSON value, or one that nothing follows.
         &b"{\"a\":1}}"[..],
         &b"{\"a\":1} {\"a\":2}"[..],
         &b"\n{}\n{}"[..],

@@ -51,10 +51,10 @@ module _ {S H : Type 0} (table : PrefixTable S H) where
   found_with n hash =
       if is_listed table.lengths.items n then numbers_at nat_eq table.by_hash hash else []
 
-  -- the same for a string
+  -- the numbers of the entries that the table has for a string
   abbrev pub found_under : List ℕ → List ℕ
   found_under text = found_with (length text) (hash_of table.base text)
 
-  -- the same for all prefixes of a URI, for lengths that some filed prefix has
+  -- the numbers of the entries that the table has for the prefixes of a URI with a length that some filed prefix has
   abbrev pub found_for : List ℕ → List ℕ
   found_for uri = flat_map found_under (beginnings (take (length table.lengths.items) uri))

@@ -37,8 +37,8 @@ SeparatesCharacter old new c cs = kept_with old (parted old.after_sign c ++ cs) 
 abbrev pub Writes : ShownText → ShownText → ℕ → List ℕ × ℕ → Type 0
 Writes old new more piece = (more ≡ piece.1) × TakesCharacters old new piece.0
 
--- a character of a message with placeholders was read, of which the first `skip` characters are read already; of what
--- follows, the first `next` are read then
+-- a character of a message with placeholders was read; before that, the first `skip` characters of the message were
+-- read already; after it, the first `next` characters of the rest are read
 abbrev pub Fills : ShownText → ShownText → List Data → ℕ → ℕ → List ℕ → ℕ → Type 0
 Fills old new args skip c cs next =
     (more : List ℕ) → shown_with old (filled_from args skip (c ∷ cs) ++ more)

@@ -5,5 +5,6 @@ use Rattle.sarif_accept.proofs.asked.text_of_guid.Goals as goal
 
 pub returns : goal.returns
 returns c =
-    let is : c.encode_lower-text.result.now ≡ guid_text c.args.guid = c.encode_lower-text.ensures.text ∙ ap (hyphenated_text lower) (c.hyphenated.ensures ∙ c.from_u128.ensures) in
+    let is : c.encode_lower-text.result.now ≡ guid_text c.args.guid = c.encode_lower-text.ensures.text
+    ∙ ap (hyphenated_text lower) (c.hyphenated.ensures ∙ c.from_u128.ensures) in
     rw is at c.try_from_str.ensures

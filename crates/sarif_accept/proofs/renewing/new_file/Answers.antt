@@ -19,4 +19,5 @@ pub returns-then-is_too_indented-clause-err : goal.returns-then-is_too_indented-
 returns-then-is_too_indented-clause-err c = λ fault same.
     let long : nat_lt most_bytes (lines_in 1 (view c.in_ok-file.file)) ≡ true = search rules in
     let one : TooLong ≡ fault = cc in
-    is_too_indented (option_map (λ b. b.now) c.args.bytes) c.args.kept.now (map (λ r. r.now) c.args.added.now) c.args.renewal.now _ c.in_ok-file.ensures.value c.in_ok-file.ensures.few long ∙ ap (λ c. Some c) one
+    is_too_indented (option_map (λ b. b.now) c.args.bytes) c.args.kept.now
+    (map (λ r. r.now) c.args.added.now) c.args.renewal.now _ c.in_ok-file.ensures.value c.in_ok-file.ensures.few long ∙ ap (λ c. Some c) one

@@ -11,10 +11,12 @@ loop-pair-preserved c = record {
   told = elim c.match-behind.branch [
     | in-Some w ↦
         let there : list_any (λ p. is_pair p c.pair-item.result) c.loop-pair.left.now ≡ true = search rules in
-        passed_in_end c.args.wanted.now c.args.found.now c.loop-pair.left.now c.loop-pair.pair-index c.loop-pair.invariant.end.0 c.pair-item.result c.loop-pair-test.true c.pair-item.is c.loop-pair.invariant.end.1 there ∙ c.loop-pair.invariant.told
+        passed_in_end c.args.wanted.now c.args.found.now c.loop-pair.left.now c.loop-pair.pair-index c.loop-pair.invariant.end.0
+        c.pair-item.result c.loop-pair-test.true c.pair-item.is c.loop-pair.invariant.end.1 there ∙ c.loop-pair.invariant.told
     | in_default+else-not-contains w ↦
         let there : list_any (λ p. is_pair p c.pair-item.result) c.args.found.now ≡ true = search rules in
-        passed c.args.wanted.now c.args.found.now c.loop-pair.pair-index c.pair-item.result c.loop-pair-test.true c.pair-item.is there ∙ c.loop-pair.invariant.told
+        passed c.args.wanted.now c.args.found.now c.loop-pair.pair-index c.pair-item.result c.loop-pair-test.true c.pair-item.is there
+        ∙ c.loop-pair.invariant.told
   ];
   end = elim c.match-behind.branch [
     | in-Some w ↦

@@ -8,5 +8,6 @@ use Rattle.sarif_entries.proofs.read_file.read_entries.Given as goal
 abbrev pub invariant-loop-number : goal.invariant-loop-number
 invariant-loop-number l = record {
   count : length l.entries.items ≡ l.number;
-  told : joined l.entries.items (entries_from l.version l.today l.number (map view (drop l.number l.values))) ≡ entries_from l.version l.today 0 (map view l.values);
+  told : joined l.entries.items (entries_from l.version l.today l.number (map view (drop l.number l.values)))
+      ≡ entries_from l.version l.today 0 (map view l.values);
 }

@@ -26,7 +26,8 @@ loop-entry-preserved c = λ n.
           rw (w.lengths-is, key) refl
     ]
     in
-    let more : is_length n (take (c.loop-entry.entry-index + 1) c.args.entries.now) ≡ (is_length n (take c.loop-entry.entry-index c.args.entries.now) || has_length n c.entry-item.result) =
+    let more : is_length n (take (c.loop-entry.entry-index + 1) c.args.entries.now)
+    ≡ (is_length n (take c.loop-entry.entry-index c.args.entries.now) || has_length n c.entry-item.result) =
     list_any_more (has_length n) entries i item c.loop-entry-test.true ∙ ap (λ e. is_length n (take i entries) || has_length n e) (sym c.entry-item.is)
     in
     added ∙ turned (has_length n item) (is_listed c.loop-entry.lengths.items n) ∙ rw (c.loop-entry.invariant n) (sym more)

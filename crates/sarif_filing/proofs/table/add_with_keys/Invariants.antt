@@ -7,4 +7,5 @@ use Rattle.sarif_filing.proofs.table.add_with_keys.Given as goal
 -- the numbers so far, and then those of the keys that are left
 abbrev pub invariant-loop-key : goal.invariant-loop-key
 invariant-loop-key g l =
-    l.found.items ++ flat_map (numbers_at (pointwise bytes_eq) l.table) (drop l.key-index l.keys) ≡ l.fn.found.items ++ flat_map (numbers_at (pointwise bytes_eq) l.table) l.keys
+    l.found.items ++ flat_map (numbers_at (pointwise bytes_eq) l.table) (drop l.key-index l.keys)
+    ≡ l.fn.found.items ++ flat_map (numbers_at (pointwise bytes_eq) l.table) l.keys

@@ -7,4 +7,5 @@ use Rattle.sarif_filing.proofs.table.add_with_pairs.Goals as goal
 pub loop-pair-preserved : goal.loop-pair-preserved
 loop-pair-preserved g c =
     let added : c.extend_from_slice.new.self.items ≡ c.loop-pair.found.items ++ numbers_at is_pair c.args.table.now c.pair-item.result = search rules in
-    under_step (numbers_at is_pair c.args.table.now) c.loop-pair.found.items _ c.args.pairs.now c.loop-pair.pair-index c.pair-item.result c.loop-pair-test.true c.pair-item.is added ∙ c.loop-pair.invariant
+    under_step (numbers_at is_pair c.args.table.now) c.loop-pair.found.items _ c.args.pairs.now c.loop-pair.pair-index c.pair-item.result
+    c.loop-pair-test.true c.pair-item.is added ∙ c.loop-pair.invariant

@@ -9,7 +9,8 @@ use Rattle.sarif_filing.proofs.table.numbers_by_message.Goals.{in-Some+in_ok-add
 
 pub loop-number-preserved : goal.loop-number-preserved
 loop-number-preserved g c = λ q.
-    let added : numbers_at (pointwise bytes_eq) c.match-branch-2.table q ≡ numbers_at (pointwise bytes_eq) c.loop-number.table q ++ (if asks_for_message q c.index-entries-number.result then c.loop-number.number ∷ [] else []) =
+    let added : numbers_at (pointwise bytes_eq) c.match-branch-2.table q ≡ numbers_at (pointwise bytes_eq) c.loop-number.table q
+    ++ (if asks_for_message q c.index-entries-number.result then c.loop-number.number ∷ [] else []) =
     elim c.match-branch-2.branch [
       | in-Some+in_ok-add_number w ↦
           let key : message_key c.index-entries-number.result.conditions ≡ Some w.in-Some.key = search rules in
@@ -19,4 +20,5 @@ loop-number-preserved g c = λ q.
           rw (w.table-is, key, append-nil) refl
     ]
     in
-    one_more (asks_for_message q) c.loop-number.number c.args.entries.now c.index-entries-number.result _ _ _ (omega arith) c.index-entries-number.is added (c.loop-number.invariant q)
+    one_more (asks_for_message q) c.loop-number.number c.args.entries.now c.index-entries-number.result _ _ _
+    (omega arith) c.index-entries-number.is added (c.loop-number.invariant q)

@@ -8,4 +8,5 @@ use Rattle.sarif_filing.proofs.table.numbers_by_message.Given as goal
 -- for each key the numbers so far, and then those of the entries that are left
 abbrev pub invariant-loop-number : goal.invariant-loop-number
 invariant-loop-number g l =
-    (q : List (List ℕ)) → numbers_at (pointwise bytes_eq) l.table q ++ numbers_from (asks_for_message q) l.number (drop l.number l.entries) ≡ numbers_from (asks_for_message q) 0 l.entries
+    (q : List (List ℕ)) → numbers_at (pointwise bytes_eq) l.table q ++ numbers_from (asks_for_message q) l.number (drop l.number l.entries)
+    ≡ numbers_from (asks_for_message q) 0 l.entries

@@ -9,7 +9,9 @@ use Rattle.sarif_filing.proofs.table.numbers_by_pair.Goals.{in-Some+in_ok-clone+
 
 pub loop-number-preserved : goal.loop-number-preserved
 loop-number-preserved g c = λ q.
-    let added : numbers_at is_pair c.match-pair_key.table q ≡ numbers_at is_pair c.loop-number.table q ++ (if asks_for_pair c.args.which q c.index-entries-number.result then c.loop-number.number ∷ [] else []) =
+    let added : numbers_at is_pair c.match-pair_key.table q
+    ≡ numbers_at is_pair c.loop-number.table q
+    ++ (if asks_for_pair c.args.which q c.index-entries-number.result then c.loop-number.number ∷ [] else []) =
     elim c.match-pair_key.branch [
       | in-Some+in_ok-clone+in_ok-clone-2+in_ok-add_number w ↦
           let key : pair_key c.args.which c.index-entries-number.result.conditions ≡ Some (w.in_ok-clone.field-0, w.in_ok-clone-2.field-0) = search rules in
@@ -19,4 +21,5 @@ loop-number-preserved g c = λ q.
           rw (w.table-is, key, append-nil) refl
     ]
     in
-    one_more (asks_for_pair c.args.which q) c.loop-number.number c.args.entries.now c.index-entries-number.result _ _ _ (omega arith) c.index-entries-number.is added (c.loop-number.invariant q)
+    one_more (asks_for_pair c.args.which q) c.loop-number.number c.args.entries.now c.index-entries-number.result _ _ _
+    (omega arith) c.index-entries-number.is added (c.loop-number.invariant q)

@@ -8,7 +8,8 @@ use Rattle.sarif_filing.proofs.table.numbers_by_text.Goals.{in-Some+in_ok-clone+
 
 pub loop-number-preserved : goal.loop-number-preserved
 loop-number-preserved g c = λ q.
-    let added : numbers_at bytes_eq c.match-text_key.table q ≡ numbers_at bytes_eq c.loop-number.table q ++ (if asks_for_text c.args.which q c.index-entries-number.result then c.loop-number.number ∷ [] else []) =
+    let added : numbers_at bytes_eq c.match-text_key.table q ≡ numbers_at bytes_eq c.loop-number.table q
+    ++ (if asks_for_text c.args.which q c.index-entries-number.result then c.loop-number.number ∷ [] else []) =
     elim c.match-text_key.branch [
       | in-Some+in_ok-clone+in_ok-add_number w ↦
           let key : text_key c.args.which c.index-entries-number.result.conditions ≡ Some w.in_ok-clone.field-0 = search rules in
@@ -18,4 +19,5 @@ loop-number-preserved g c = λ q.
           rw (w.table-is, key, append-nil) refl
     ]
     in
-    one_more (asks_for_text c.args.which q) c.loop-number.number c.args.entries.now c.index-entries-number.result _ _ _ (omega arith) c.index-entries-number.is added (c.loop-number.invariant q)
+    one_more (asks_for_text c.args.which q) c.loop-number.number c.args.entries.now c.index-entries-number.result _ _ _
+    (omega arith) c.index-entries-number.is added (c.loop-number.invariant q)

@@ -7,4 +7,5 @@ use Rattle.sarif_filing.proofs.table.numbers_by_text.Given as goal
 -- for each text the numbers so far, and then those of the entries that are left
 abbrev pub invariant-loop-number : goal.invariant-loop-number
 invariant-loop-number g l =
-    (q : List ℕ) → numbers_at bytes_eq l.table q ++ numbers_from (asks_for_text l.which q) l.number (drop l.number l.entries) ≡ numbers_from (asks_for_text l.which q) 0 l.entries
+    (q : List ℕ) → numbers_at bytes_eq l.table q ++ numbers_from (asks_for_text l.which q) l.number (drop l.number l.entries)
+    ≡ numbers_from (asks_for_text l.which q) 0 l.entries

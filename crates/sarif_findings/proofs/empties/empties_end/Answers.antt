@@ -18,7 +18,8 @@ loop-end-preserved c =
     let i = c.loop-end.end in
     let bytes : c.as_bytes-bytes.result.now ≡ c.args.text.now = search rules in
     let within : c.loop-end.end + 2 < length c.args.text.now = omega (arith, c.loop-end-test.true, ap length bytes) in
-    let here : IsEmptied (map view c.args.args.now) (get_or c.args.text.now c.loop-end.end 0) (get_or c.args.text.now (c.loop-end.end + 1) 0) (get_or c.args.text.now (c.loop-end.end + 2) 0) = search rules in
+    let here : IsEmptied (map view c.args.args.now) (get_or c.args.text.now c.loop-end.end 0)
+    (get_or c.args.text.now (c.loop-end.end + 1) 0) (get_or c.args.text.now (c.loop-end.end + 2) 0) = search rules in
     record {
       cut = cut_behind text (i + 2) (i + 3) c.utf8.text within (omega (arith, here.1.0)) (omega arith);
       same = passes_one (map view c.args.args.now) text i within here held.same;

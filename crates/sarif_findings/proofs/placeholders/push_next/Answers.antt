@@ -10,4 +10,5 @@ returns-then-skip-gt0 c = λ more.
 
 pub returns : goal.returns
 returns c = λ more.
-    piece_step c.args.so_far.now c.push_piece.new.so_far (map view c.args.args.now) c.args.skip c.in_ok-more.more _ (left c.args.rest.now) c.args.c more refl (omega arith) c.in_ok-more.ensures.0 c.in_ok-more.ensures.1
+    piece_step c.args.so_far.now c.push_piece.new.so_far (map view c.args.args.now) c.args.skip c.in_ok-more.more _
+    (left c.args.rest.now) c.args.c more refl (omega arith) c.in_ok-more.ensures.0 c.in_ok-more.ensures.1

@@ -12,7 +12,8 @@ loop-file-init c = record {
 
 pub loop-file-preserved : goal.loop-file-preserved
 loop-file-preserved c = record {
-  rows = rows_more (rows_at c.args.grouped.now.groups) c.args.most c.deref-file-items.result.now c.loop-file.file-index _ (findings_in c.loop-file.rows.items) _ c.loop-file-test.true c.loop-file.invariant.rows c.in_ok-push_group.ensures.rows;
+  rows = rows_more (rows_at c.args.grouped.now.groups) c.args.most c.deref-file-items.result.now c.loop-file.file-index _
+      (findings_in c.loop-file.rows.items) _ c.loop-file-test.true c.loop-file.invariant.rows c.in_ok-push_group.ensures.rows;
   room = c.in_ok-push_group.ensures.room;
 }
 

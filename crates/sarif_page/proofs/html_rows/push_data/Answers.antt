@@ -3,5 +3,13 @@ use Rattle.sarif_page.proofs.html_rows.push_data.Goals as goal
 
 pub returns : goal.returns
 returns c =
-    rw (c.in_ok-push_str-7.ensures.bytes, c.in_ok-push_str-6.ensures.bytes, c.in_ok-push_str-5.ensures.bytes, c.in_ok-push_str-4.ensures.bytes, c.in_ok-push_str-3.ensures.bytes, c.in_ok-push_str-2.ensures.bytes, c.in_ok-push_str.ensures.bytes)
+    rw (
+      c.in_ok-push_str-7.ensures.bytes,
+      c.in_ok-push_str-6.ensures.bytes,
+      c.in_ok-push_str-5.ensures.bytes,
+      c.in_ok-push_str-4.ensures.bytes,
+      c.in_ok-push_str-3.ensures.bytes,
+      c.in_ok-push_str-2.ensures.bytes,
+      c.in_ok-push_str.ensures.bytes,
+    )
     (simp append_assoc)

@@ -5,5 +5,11 @@ use Rattle.sarif_page.proofs.html_rows.push_link.Goals as goal
 pub returns : goal.returns
 unfolding linked_to
 returns c =
-    rw (c.in_ok-push_str-5.ensures.bytes, c.in_ok-push_str-4.ensures, c.in_ok-push_str-3.ensures.bytes, c.in_ok-push_str-2.ensures, c.in_ok-push_str.ensures.bytes)
+    rw (
+      c.in_ok-push_str-5.ensures.bytes,
+      c.in_ok-push_str-4.ensures,
+      c.in_ok-push_str-3.ensures.bytes,
+      c.in_ok-push_str-2.ensures,
+      c.in_ok-push_str.ensures.bytes,
+    )
     (simp append_assoc)

@@ -5,5 +5,13 @@ use Rattle.sarif_page.proofs.html_rows.push_tool_cells.Goals as goal
 pub returns : goal.returns
 unfolding tool_cells
 returns c =
-    rw (c.in_ok-push_str-5.ensures.bytes, c.in_ok-push_str-4.ensures, c.in_ok-push_str-3.ensures.bytes, c.in_ok-push_str-2.ensures.bytes, c.in_ok-push_str.ensures.bytes, c.name.ensures, c.as_str.ensures)
+    rw (
+      c.in_ok-push_str-5.ensures.bytes,
+      c.in_ok-push_str-4.ensures,
+      c.in_ok-push_str-3.ensures.bytes,
+      c.in_ok-push_str-2.ensures.bytes,
+      c.in_ok-push_str.ensures.bytes,
+      c.name.ensures,
+      c.as_str.ensures,
+    )
     (simp append_assoc)

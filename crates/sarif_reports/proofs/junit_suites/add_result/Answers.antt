@@ -16,4 +16,5 @@ returns c =
     let same : c.get_mut.follows.lender-at-none ≡ c.args.suites.now = search rules in
     ap (map seen_suite) c.in_ok-insert.ensures.entries
     ∙ ap (λ m. map seen_suite (insert_entry same_key m.entries c.args.tool new)) same
-    ∙ suite_added c.args.finding.now c.args.suites.now.entries c.args.tool new c.requires (ap pointed c.in_ok-results.ensures.items) (sym c.in_default.ensures.value)
+    ∙ suite_added c.args.finding.now c.args.suites.now.entries c.args.tool new c.requires (ap pointed c.in_ok-results.ensures.items)
+    (sym c.in_default.ensures.value)

@@ -15,14 +15,18 @@ returns-clause-text c =
     let first : string_bytes c.in_ok-text.text ≡ heading (verdict_of facts.count facts.policy) (hits_of facts.count facts.policy) facts.policy.max =
     c.in_ok-text.ensures ∙ rw (c.verdict.ensures, c.hits-hits.ensures) refl in
     let fourth : string_bytes c.push_results.new.text
-    ≡ ((heading (verdict_of facts.count facts.policy) (hits_of facts.count facts.policy) facts.policy.max ++ counts_table facts.count) ++ paragraph (notes facts.without facts.unused)) ++ results_table facts.findings =
+    ≡ ((heading (verdict_of facts.count facts.policy) (hits_of facts.count facts.policy) facts.policy.max ++ counts_table facts.count)
+    ++ paragraph (notes facts.without facts.unused)) ++ results_table facts.findings =
     c.in_ok-push_results.ensures
     ∙ ap (λ bytes. bytes ++ results_table facts.findings)
-    (c.in_ok-push_notes.ensures ∙ ap (λ bytes. bytes ++ paragraph (notes facts.without facts.unused)) (c.in_ok-push_counts.ensures ∙ ap (λ bytes. bytes ++ counts_table facts.count) first)) in
+    (c.in_ok-push_notes.ensures
+    ∙ ap (λ bytes. bytes ++ paragraph (notes facts.without facts.unused))
+    (c.in_ok-push_counts.ensures ∙ ap (λ bytes. bytes ++ counts_table facts.count) first)) in
     let unshown = unshown_number facts.show facts.count facts.policy in
     let hits = hits_of facts.count facts.policy in
     let all : string_bytes c.push_last.new.text
-    ≡ (((heading (verdict_of facts.count facts.policy) hits facts.policy.max ++ counts_table facts.count) ++ paragraph (notes facts.without facts.unused)) ++ results_table facts.findings)
+    ≡ (((heading (verdict_of facts.count facts.policy) hits facts.policy.max ++ counts_table facts.count)
+    ++ paragraph (notes facts.without facts.unused)) ++ results_table facts.findings)
     ++ last_lines unshown hits =
     c.in_ok-push_last.ensures ∙ ap (λ n. string_bytes c.push_results.new.text ++ last_lines c.unshown_number-unshown.result n) c.hits-hits.ensures
     ∙ ap (λ n. string_bytes c.push_results.new.text ++ last_lines n hits) c.unshown_number-unshown.ensures
@@ -37,14 +41,18 @@ returns-clause-short c =
     let first : string_bytes c.in_ok-text.text ≡ heading (verdict_of facts.count facts.policy) (hits_of facts.count facts.policy) facts.policy.max =
     c.in_ok-text.ensures ∙ rw (c.verdict.ensures, c.hits-hits.ensures) refl in
     let fourth : string_bytes c.push_results.new.text
-    ≡ ((heading (verdict_of facts.count facts.policy) (hits_of facts.count facts.policy) facts.policy.max ++ counts_table facts.count) ++ paragraph (notes facts.without facts.unused)) ++ results_table facts.findings =
+    ≡ ((heading (verdict_of facts.count facts.policy) (hits_of facts.count facts.policy) facts.policy.max ++ counts_table facts.count)
+    ++ paragraph (notes facts.without facts.unused)) ++ results_table facts.findings =
     c.in_ok-push_results.ensures
     ∙ ap (λ bytes. bytes ++ results_table facts.findings)
-    (c.in_ok-push_notes.ensures ∙ ap (λ bytes. bytes ++ paragraph (notes facts.without facts.unused)) (c.in_ok-push_counts.ensures ∙ ap (λ bytes. bytes ++ counts_table facts.count) first)) in
+    (c.in_ok-push_notes.ensures
+    ∙ ap (λ bytes. bytes ++ paragraph (notes facts.without facts.unused))
+    (c.in_ok-push_counts.ensures ∙ ap (λ bytes. bytes ++ counts_table facts.count) first)) in
     let unshown = unshown_number facts.show facts.count facts.policy in
     let hits = hits_of facts.count facts.policy in
     let all : string_bytes c.push_last.new.text
-    ≡ (((heading (verdict_of facts.count facts.policy) hits facts.policy.max ++ counts_table facts.count) ++ paragraph (notes facts.without facts.unused)) ++ results_table facts.findings)
+    ≡ (((heading (verdict_of facts.count facts.policy) hits facts.policy.max ++ counts_table facts.count)
+    ++ paragraph (notes facts.without facts.unused)) ++ results_table facts.findings)
     ++ last_lines unshown hits =
     c.in_ok-push_last.ensures ∙ ap (λ n. string_bytes c.push_results.new.text ++ last_lines c.unshown_number-unshown.result n) c.hits-hits.ensures
     ∙ ap (λ n. string_bytes c.push_results.new.text ++ last_lines n hits) c.unshown_number-unshown.ensures

@@ -10,7 +10,8 @@ pub returns-clause-rows : goal.returns-clause-rows
 returns-clause-rows c =
     let first = ap (map (λ f. f.now)) c.first_rows.ensures ∙ sym (take-map (λ f. f.now) most_rows c.args.listed.now) in
     subst
-    (λ (fs : List Finding). OnOk c.push_fitting.result (string_bytes c.push_fitting.new.text ≡ string_bytes c.args.text.now ++ flat_map result_row (fitting most_bytes fs)))
+    (λ (fs : List Finding). OnOk c.push_fitting.result
+    (string_bytes c.push_fitting.new.text ≡ string_bytes c.args.text.now ++ flat_map result_row (fitting most_bytes fs)))
     first c.push_fitting.ensures.rows
 
 pub returns-clause-count : goal.returns-clause-count

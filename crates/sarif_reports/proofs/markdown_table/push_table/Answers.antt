@@ -18,7 +18,9 @@ returns c =
     sym (drop-map (λ f. f.now) c.in_ok-count.count slice) ∙ ap (λ n. drop n (map (λ f. f.now) slice)) c.in_ok-count.ensures.count
     ∙ ap (λ (gs : List Finding). drop (length (rows_of gs)) gs) same in
     c.in_ok-push_paragraph.ensures
-    ∙ ap (λ (t : List ℕ). string_bytes c.push_rows.new.text ++ paragraph t) (c.as_str.ensures.value ∙ c.in_ok-others.ensures ∙ ap (λ gs. others_line (map (λ f. f.now) gs)) c.after.ensures ∙ ap others_line rest)
-    ∙ ap (λ (t : List ℕ). t ++ more) (c.in_ok-count.ensures.rows ∙ ap (λ (gs : List Finding). string_bytes c.push_str.new.self ++ flat_map result_row (rows_of gs)) same)
+    ∙ ap (λ (t : List ℕ). string_bytes c.push_rows.new.text ++ paragraph t)
+    (c.as_str.ensures.value ∙ c.in_ok-others.ensures ∙ ap (λ gs. others_line (map (λ f. f.now) gs)) c.after.ensures ∙ ap others_line rest)
+    ∙ ap (λ (t : List ℕ). t ++ more)
+    (c.in_ok-count.ensures.rows ∙ ap (λ (gs : List Finding). string_bytes c.push_str.new.self ++ flat_map result_row (rows_of gs)) same)
     ∙ ap (λ (t : List ℕ). (t ++ flat_map result_row (in_table fs)) ++ more) c.in_ok-push_str.ensures.bytes
     ∙ regroup (string_bytes c.args.text.now) _ (flat_map result_row (in_table fs)) more

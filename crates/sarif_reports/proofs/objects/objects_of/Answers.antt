@@ -11,6 +11,7 @@ returns g c =
     let ranked = c.args.ranked.now in
     let some : 0 < length ranked = search rules in
     let texts = c.in_ok-texts.texts.items in
-    IfOk-weaker c.join_texts.result (λ s. AreJoined string_bytes texts (string_bytes s)) (λ s. string_bytes s ≡ begin ++ joined_objects false (map object_of ranked))
+    IfOk-weaker c.join_texts.result (λ s. AreJoined string_bytes texts (string_bytes s))
+    (λ s. string_bytes s ≡ begin ++ joined_objects false (map object_of ranked))
     (λ s are. joined_parts _ _ begin (λ start p t said. said) ranked texts (string_bytes s) some c.in_ok-texts.ensures are)
     c.join_texts.ensures

@@ -7,5 +7,6 @@ pub returns : goal.returns
 returns c =
     let f = c.args.finding.now in
     let ends = joined _ _ _ (location_text f) (severity_text f.level) c.in_ok-push_location.ensures c.in_ok-push_severity.ensures in
-    let begins = joined_before _ _ _ (rule_text f) (codes ",\"fingerprint\":" ++ quoted_text c.args.mark.now) (location_text f ++ severity_text f.level) c.in_ok-push_rule.ensures c.in_ok-push_member.ensures in
+    let begins = joined_before _ _ _ (rule_text f) (codes ",\"fingerprint\":" ++ quoted_text c.args.mark.now)
+    (location_text f ++ severity_text f.level) c.in_ok-push_rule.ensures c.in_ok-push_member.ensures in
     rw (quality_parts f c.args.mark.now) (ends ∙ begins)

@@ -10,4 +10,5 @@ returns c =
     let rule : c.or_unknown-rule.result.now ≡ or_unknown c.args.finding.now.rule = search rules in
     let message : c.as_str-2.result.now ≡ c.args.finding.now.message = search rules in
     rw (sym rule, sym message)
-    (joined _ _ _ (codes "{\"check_name\":" ++ quoted_text c.or_unknown-rule.result.now) (codes ",\"description\":" ++ quoted_text c.as_str-2.result.now) c.in_ok-push_member.ensures c.in_ok-push_member-2.ensures)
+    (joined _ _ _ (codes "{\"check_name\":" ++ quoted_text c.or_unknown-rule.result.now)
+    (codes ",\"description\":" ++ quoted_text c.as_str-2.result.now) c.in_ok-push_member.ensures c.in_ok-push_member-2.ensures)

@@ -9,5 +9,6 @@ loop-number-preserved g c =
     let added = c.in_ok-add_unseen_at.ensures own c.loop-number.invariant.keys in
     record {
       keys = added.1;
-      told = next_object (own ++ map view c.loop-number.unseen.items) _ c.args.entries.now c.args.numbers.now c.loop-number.number-index c.loop-number-test.true added.0 ∙ c.loop-number.invariant.told;
+      told = next_object (own ++ map view c.loop-number.unseen.items) _ c.args.entries.now c.args.numbers.now c.loop-number.number-index
+          c.loop-number-test.true added.0 ∙ c.loop-number.invariant.told;
     }

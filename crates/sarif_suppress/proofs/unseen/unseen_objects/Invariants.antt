@@ -9,5 +9,6 @@ use Rattle.sarif_suppress.proofs.unseen.unseen_objects.Given as goal
 abbrev pub invariant-loop-number : goal.invariant-loop-number
 invariant-loop-number g l = record {
   keys : HasKeysOf l.keys (map view l.own ++ map view l.unseen.items);
-  told : with_objects_at (map view l.own ++ map view l.unseen.items) l.entries (drop l.number-index l.numbers) ≡ with_objects_at (map view l.own) l.entries l.numbers;
+  told : with_objects_at (map view l.own ++ map view l.unseen.items) l.entries (drop l.number-index l.numbers)
+      ≡ with_objects_at (map view l.own) l.entries l.numbers;
 }

@@ -28,5 +28,29 @@ returns g c = λ entries table.
     let tool = c.in_ok-extend_from_slice-4.ensures.items in
     let of_others = c.deref.ensures.value in
     let others = c.in_ok-extend_from_slice-5.ensures.items in
-    let items : c.extend_from_slice-5.new.self.items ≡ ((((((option_map_or (numbers_at nat_eq t.guids) r.guid [] ++ flat_map (numbers_at is_pair t.pairs.full) r.full) ++ flat_map (numbers_at is_pair t.pairs.partial) r.partial) ++ flat_map (numbers_at (pointwise bytes_eq) t.texts.messages) (message_keys r)) ++ option_map_or (numbers_at bytes_eq t.texts.uris) r.place.uri []) ++ numbers_at bytes_eq t.texts.rules r.rule_id) ++ numbers_at bytes_eq t.texts.tools r.tool) ++ t.others.items = rw (others, of_others, tool, of_tool, rule, of_rule, uri, of_uri, message, partial, partial_pairs, full, full_pairs, guid, of_guid, new) refl in
+    let items : c.extend_from_slice-5.new.self.items
+    ≡
+    ((((((option_map_or (numbers_at nat_eq t.guids) r.guid [] ++ flat_map (numbers_at is_pair t.pairs.full) r.full)
+    ++ flat_map (numbers_at is_pair t.pairs.partial) r.partial)
+    ++ flat_map (numbers_at (pointwise bytes_eq) t.texts.messages) (message_keys r))
+    ++ option_map_or (numbers_at bytes_eq t.texts.uris) r.place.uri []) ++ numbers_at bytes_eq t.texts.rules r.rule_id)
+    ++ numbers_at bytes_eq t.texts.tools r.tool) ++ t.others.items =
+    rw (
+      others,
+      of_others,
+      tool,
+      of_tool,
+      rule,
+      of_rule,
+      uri,
+      of_uri,
+      message,
+      partial,
+      partial_pairs,
+      full,
+      full_pairs,
+      guid,
+      of_guid,
+      new,
+    ) refl in
     items ∙ from_tables entries t r table

@@ -41,7 +41,8 @@ returns-in_ok-add_group c = λ before h.
       λ q.
           c.in_ok-add_group.ensures q
           ∙ ap (λ t. if bytes_eq t q then Some (f ∷ []) else group_at c.add_to_group.new.groups q) file
-          ∙ ap (λ o. if bytes_eq (file_of f) q then Some (f ∷ []) else o) (c.in_ok-add_to_group.ensures.groups q ∙ none_grown c.file_of-file.result.now q f at unseen ∙ h.1 q)
+          ∙ ap (λ o. if bytes_eq (file_of f) q then Some (f ∷ []) else o)
+          (c.in_ok-add_to_group.ensures.groups q ∙ none_grown c.file_of-file.result.now q f at unseen ∙ h.1 q)
           ∙ new_group most before f none fits q,
     )
 

@@ -18,4 +18,5 @@ loop-finding-preserved c =
 
 pub returns : goal.returns
 returns c =
-    subst (λ l. IsGrouped c.args.most (findings_in l) c.loop-finding.grouped) (take_all c.loop-finding.finding-index c.args.findings.now (omega arith)) c.loop-finding.invariant
+    subst (λ l. IsGrouped c.args.most (findings_in l) c.loop-finding.grouped)
+    (take_all c.loop-finding.finding-index c.args.findings.now (omega arith)) c.loop-finding.invariant

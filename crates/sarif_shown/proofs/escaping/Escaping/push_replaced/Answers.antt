@@ -23,7 +23,8 @@ loop-i-preserved c =
       | then-escapes+in_ok-push_str+in_ok-push_char w ↦
           let here : escapes c.args.self (get_or c.args.plain.now i 0) ≡ true = search rules in
           let front : string_bytes w.push_str.new.self ≡ string_bytes c.loop-i.text ++ slice_range c.args.plain.now c.loop-i.added i = search rules in
-          let char : string_bytes w.push_char.new.text ≡ string_bytes w.push_str.new.self ++ escaped_char c.args.self (get_or c.args.plain.now i 0) = search rules in
+          let char : string_bytes w.push_char.new.text
+          ≡ string_bytes w.push_str.new.self ++ escaped_char c.args.self (get_or c.args.plain.now i 0) = search rules in
           rw (w.added-is, w.text-is) (record {
             front = omega arith;
             cut = IsCharBoundary-after_ascii c.args.plain.now i c.utf8.plain within (escapes_low c.args.self (get_or c.args.plain.now i 0) here);

@@ -14,4 +14,5 @@ returns g c =
     let found : c.args.applied.now.entries ≡ numbers_from (λ e. matches c.self.inside.today e r) 0 entries = rw (← c.self.view_is) at c.requires in
     rw (← c.self.view_is)
     (c.do_suppress_for_good.ensures
-    ∙ rw (c.as_slice.ensures, c.as_slice-numbers.ensures, c.deref.ensures.value, found) (lasting_verdict (λ e. matches c.self.inside.today e r) is_lasting r.held entries))
+    ∙ rw (c.as_slice.ensures, c.as_slice-numbers.ensures, c.deref.ensures.value, found)
+    (lasting_verdict (λ e. matches c.self.inside.today e r) is_lasting r.held entries))
