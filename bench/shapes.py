@@ -10,6 +10,7 @@ from dataclasses import dataclass, field
 from typing import Optional
 
 LONG = "n" * 100_000
+MEGABYTE = "n" * 1_000_000
 # Names that begin like this, with eight digits and this ending, have the same hash in the kit's tables
 # if the tables have their default seed.
 SAME_HASH = "p9zdi529cnqp5de7tP_z'E{$", "/v1/v1/v1/v1/v1/"
@@ -30,6 +31,8 @@ class Input:
     kept: str = ""
     # Whether the merge is rejected, since a file for later merges would be too long.
     is_too_long: bool = False
+    # The version of matching. Without the option it is 2.
+    matching: int = 2
 
     def files(self, folder):
         """Writes the files. Returns the arguments that merge them."""
@@ -44,6 +47,8 @@ class Input:
             words += ["--suppress-out", str(folder / "new"), "--accept"]
         if self.kept == "known":
             words += ["--known", str(folder / "known"), "--adopt"]
+        if self.matching != 2:
+            words += ["--matching", str(self.matching)]
         return [*words, *(put(folder / f"log{n}", text) for n, text in enumerate(self.logs))]
 
     def statuses(self):
@@ -492,7 +497,6 @@ def sources(count):
     yield Input([log(*[run([{}] * 20)] * count)])
 
 
-# The function that makes a costly input and its twin, and the size at which they are measured.
 # ---- What is written for later merges
 
 
@@ -536,6 +540,100 @@ def known_long_rule(count):
         yield Input([log(run(results, {"rules": [rule]}))], kept="known", is_too_long=identity == LONG)
 
 
+# ---- Matching by snippets and lines: version 3
+
+
+def logs_of(results, most):
+    """Logs with at most so many results each."""
+    return [log(run(results[it : it + most])) for it in range(0, len(results), most)]
+
+
+def in_region(context=None, **region):
+    """The first location of a result, with a region."""
+    physical = {"artifactLocation": {"uri": "a.c"}, "region": region, **(context or {})}
+    return {"locations": [{"physicalLocation": physical}]}
+
+
+def shared_snippet(count):
+    """Results with one snippet of a megabyte, in logs of 50 results each."""
+    for name, other in (("text", "x"), ("x", "text")):
+        snippet = {name: MEGABYTE, other: "s"}
+        results = [message(**in_region(startLine=1, snippet=snippet))] * 50
+        yield Input(logs_of(results, 50) * (count // 50), logs_of(results[:1], 1), matching=3)
+
+
+def long_snippets(costly, harmless):
+    """Results with a snippet of about 60 kB, which is made from a number, on other lines than in the baseline."""
+
+    def make(count):
+        for text in (costly, harmless):
+            sides = [
+                [message(**in_region(startLine=line + i, snippet={"text": text(i)})) for i in range(count)]
+                for line in (1, 1_000_001)
+            ]
+            now, before = (logs_of(it, 1_000) for it in (sides[0], sides[1][::-1]))
+            yield Input(now, before, matching=3)
+
+    return make
+
+
+def in_one_group(members):
+    """Results on both sides, which are made from a number that is the same for all, compared with different ones."""
+
+    def make(count):
+        for is_one in (True, False):
+            text = log(run([members(f"{0 if is_one else i:06}") for i in range(count)]))
+            yield Input([text], [text], matching=3)
+
+    return make
+
+
+def names_of_one_value(value):
+    """A name of a fingerprint for each result, all with one value, compared with one name."""
+
+    def make(count):
+        for is_one in (False, True):
+            names = [f"f{0 if is_one else i:06}/v1" for i in range(count)]
+            results = [message(fingerprints={it: value}) for it in names]
+            yield Input([log(run(results))], [log(run(results[::-1]))], matching=3)
+
+    return make
+
+
+def names_and_message(count):
+    """20 results that all have many names of fingerprints and one message of a megabyte."""
+    for name, other in (("text", "x"), ("x", "text")):
+        told = {name: MEGABYTE, other: "m"}
+        sides = [{f"f{i}/v1": side for i in range(count)} for side in "ab"]
+        now, before = ([{"message": told, "fingerprints": it}] * 20 for it in sides)
+        yield Input(logs_of(now, 20), logs_of(before, 20), matching=3)
+
+
+def contexts(count):
+    """Results whose bytes are nearly all in `contextRegion`, compared with a member that isn't read."""
+    for name in ("contextRegion", "regionContext"):
+        region = {"startLine": 7, "endLine": 7, "properties": {f"p{i:03}": "n" * 60 for i in range(12)}}
+        context = {name: {**region, "snippet": {"text": "s" * 50}}}
+        results = [message(**in_region(context, startLine=7))] * count
+        yield Input([log(run(results))], [log(run(results[:1]))], matching=3)
+
+
+def repeated_contexts(count):
+    """A result with many members of the name `contextRegion`, compared with a name that isn't read."""
+    for name in ("contextRegion", "regionContext"):
+        text = log(run([message(**in_region({"x": 0}, startLine=7))]))
+        members = [f'"{name}":{{"startLine":7}}'] * count
+        yield Input([text.replace('"x":0', ",".join(members))], [text], matching=3)
+
+
+def colliding_snippets(count):
+    for parts in (SAME_HASH, OTHER_HASH):
+        texts = [hashed(i, parts) for i in range(count)]
+        results = [message(**in_region(startLine=1, snippet={"text": it})) for it in texts]
+        yield Input([log(run(results))], [log(run(results[::-1]))], matching=3)
+
+
+# The function that makes a costly input and its twin, and the size at which they are measured.
 SHAPES = {
     # Tool names, rule ids, URIs and their bases of 100,000 bytes, which many results share.
     "tool_name": (tool_name, 20_000),
@@ -599,4 +697,26 @@ SHAPES = {
     "deep_file": (deep_file, 2_000_000),
     "known_tools": (known_tools, 10_000),
     "known_long_rule": (known_long_rule, 20_000),
+    # Version 3 of matching: snippets of a megabyte, and of 60 kB that differ only at the end or in white space.
+    "shared_snippet": (shared_snippet, 1_000),
+    "snippets_by_end": (
+        long_snippets(lambda i: "n" * 60_000 + f"{i:04}", lambda i: f"{i:04}" + "n" * 60_000),
+        1_000,
+    ),
+    "snippets_by_space": (
+        long_snippets(lambda i: "n " * i + " n" * (30_000 - i), lambda i: "n" * 60_000),
+        1_000,
+    ),
+    "colliding_snippets": (colliding_snippets, 20_000),
+    # Results of one group: with nothing else, with one region, with one fingerprint. A merge has at most 1,000,000.
+    "one_group": (in_one_group(message), 500_000),
+    "one_group_region": (in_one_group(lambda n: in_region(startLine=int(f"1{n}"))), 500_000),
+    "one_group_print": (in_one_group(lambda n: {"fingerprints": {"f/v1": n}}), 500_000),
+    # Names of fingerprints, also with the empty value, and next to a message of a megabyte.
+    "names_of_one_value": (names_of_one_value("x"), 20_000),
+    "names_of_no_value": (names_of_one_value(""), 20_000),
+    "names_and_message": (names_and_message, 1_000),
+    # Logs of 64 MiB that are nearly all `contextRegion`.
+    "contexts": (contexts, 60_000),
+    "repeated_contexts": (repeated_contexts, 1_900_000),
 }

@@ -541,6 +541,103 @@ def kept_known():
     )
 
 
+def at_lines(uri="a.c", **region):
+    """A finding at this region."""
+    return {**FINDING, "locations": [{"physicalLocation": {"artifactLocation": {"uri": uri}, "region": region}}]}
+
+
+def known_with_regions():
+    """What is known with version 3 of matching."""
+    numbers = {"startLine": 3, "startColumn": 2, "endLine": 4, "endColumn": 4294967295}
+    given = [
+        ("a region and a snippet", numbers | {"snippet": {"text": " x = 1\n"}}, numbers | {"snippet": {"text": " x = 1\n"}}),
+        ("a region alone", {"startLine": 3, "charOffset": 7}, {"startLine": 3}),
+        ("a snippet alone", {"snippet": {"text": "x", "rendered": {"text": "y"}}}, {"snippet": {"text": "x"}}),
+        ("a blank snippet", {"startLine": 3, "endLine": 0, "snippet": {"text": " \t"}}, {"startLine": 3}),
+    ]
+    for name, region, written in given:
+        wanted = {"3": at_lines(**written), "2": {**FINDING, **placed(uri="a.c")}}
+        for version, result in wanted.items():
+            yield life(
+                f"version {version} knows {name}",
+                f"--matching {version} --known k --adopt",
+                log(run("lint", at_lines(**region))),
+                status=1,
+                said=["sarif_gate: 1 known, 0 left out, 0 kept"],
+                made={"k": pretty(known(rerun("lint", result)))},
+            )
+    yield life(
+        "version 3 knows a place without a region",
+        "--matching 3 --known k --adopt",
+        log(run("lint", at_lines(), FINDING)),
+        status=1,
+        made={"k": pretty(known(rerun("lint", {**FINDING, **placed(uri="a.c")}, FINDING)))},
+    )
+    context = at_lines(startLine=3)
+    context["locations"][0]["physicalLocation"]["contextRegion"] = {"startLine": 3, "snippet": {"text": "x"}}
+    yield life(
+        "version 3 knows the snippet of a context region",
+        "--matching 3 --known k --adopt",
+        log(run("lint", context)),
+        status=1,
+        made={"k": pretty(known(rerun("lint", at_lines(startLine=3, snippet={"text": "x"}))))},
+    )
+    failed = {"invocations": [{"executionSuccessful": False}]}
+    numbered = lambda tool, number: rerun(tool, {"level": "warning", "message": {}, "ruleId": number})
+    tools = known(*(numbered(*it) for it in (("b", "1"), ("b", "2"), ("b", "5"), ("lint", "4"), ("c", "3"))))
+    yield life(
+        "with version 3 runs of the baseline come before runs of the logs",
+        "--matching 3 --known k --adopt --baseline b",
+        log(run("c", {"ruleId": "3"}), run("lint", {"ruleId": "4"}), run("lint"), run("b", {"ruleId": "5"}, **failed)),
+        {"b": log(run("b", {"ruleId": "1"}), run("lint"), run("b", {"ruleId": "2"}))},
+        made={"k": pretty(tools)},
+    )
+    other_line = at_lines(startLine=3, snippet={"text": "y"})
+    before = {"b": log(run("lint", at_lines(startLine=3, snippet={"text": "x"})))}
+    yield life(
+        "a match without evidence isn't known",
+        "--matching 3 --known k --baseline b",
+        log(run("lint", other_line)),
+        before,
+        status=1,
+        said=["sarif_gate: 0 known, 1 left out, 0 kept"],
+        made={"k": pretty(known())},
+    )
+    yield life(
+        "a match without evidence is known if new hits are",
+        "--matching 3 --known k --adopt --baseline b",
+        log(run("lint", other_line)),
+        before,
+        status=1,
+        said=["sarif_gate: 1 known, 0 left out, 0 kept"],
+        made={"k": pretty(known(rerun("lint", other_line)))},
+    )
+    yield life(
+        "in version 2 each match is known",
+        "--known k --baseline b",
+        log(run("lint", other_line)),
+        before,
+        said=["sarif_gate: 1 known, 0 left out, 0 kept"],
+        made={"k": pretty(known(rerun("lint", {**FINDING, **placed(uri="a.c")})))},
+    )
+    edited = at_lines(startLine=3, snippet={"text": "y"}) | {"fingerprints": {"f": "1", "g": "2"}}
+    yield life(
+        "an ignored fingerprint isn't known",
+        "--ignore-fingerprint f --known k --adopt",
+        log(run("lint", edited)),
+        status=1,
+        made={"k": pretty(known(rerun("lint", {**FINDING, **placed(uri="a.c"), "fingerprints": {"g": "2"}})))},
+    )
+    yield life(
+        "an added entry names no ignored fingerprint",
+        "--ignore-fingerprint f --accept --suppress-out n",
+        log(run("lint", edited)),
+        status=1,
+        said=["sarif_gate: 1 accepted, 0 stay, 0 pruned, 1 entries"],
+        made={"n": pretty(entries({"fingerprints": {"g": "2"}, "ruleId": "R1", "tool": "lint", "uri": "a.c"}))},
+    )
+
+
 # ---- Arguments
 
 
@@ -683,6 +780,7 @@ def cases():
     yield from written_known()
     yield from left_out()
     yield from kept_known()
+    yield from known_with_regions()
     yield from bad_arguments()
     yield from good_names()
     yield from lost()

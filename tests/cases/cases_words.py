@@ -51,6 +51,9 @@ def gates():
         ["a", "--out=o"],
         ["--out", "o", "--workers", "64", "a"],
         ["--workers", "1", *base],
+        ["--matching", "2", *base],
+        ["--matching=3", *base],
+        ["--ignore-fingerprint", "", "--ignore-fingerprint=-x", *base],
     ):
         yield one(f"the words {' '.join(words)}", words, out=ONE_MERGED, stdout=ONE_SUMMARY)
     yield one("a day is read", ["--today", "99991231", *base], out=ONE_MERGED)
@@ -104,6 +107,13 @@ def usage():
         "--workers x",
         "--max 4294967296",
         "--max -1",
+        "--matching 1",
+        "--matching 4",
+        "--matching x",
+        "--matching=",
+        "--matching 2 --matching 3",
+        "--matching",
+        "--ignore-fingerprint",
         "--fail-on high",
         "--fail-on Error",
         "--today 0",
@@ -156,6 +166,8 @@ EXPECTED = [
     ("--until 28.11.2026", f"invalid value '28.11.2026' for '--until <YYYYMMDD>': {A_DATE}"),
     ("--max 10%", f"invalid value '10%' for '--max <NUMBER>': {A_NUMBER}"),
     ("--max 4294967296", f"invalid value '4294967296' for '--max <NUMBER>': {A_NUMBER}"),
+    ("--matching 1", "invalid value '1' for '--matching <VERSION>': expected a number from 2 to 3"),
+    ("--matching two", "invalid value 'two' for '--matching <VERSION>': expected a number from 2 to 3"),
     ("--workers four", "invalid value 'four' for '--workers <NUMBER>': expected a number from 1 to 64"),
 ]
 
@@ -210,7 +222,7 @@ def says_usage(answer):
 
 
 OPTIONS = ("--baseline", "--suppress", "--today", "--workers", "--fail-on", "--max", "--out")
-OPTIONS += ("--require-success", "--allow-external-properties")
+OPTIONS += ("--require-success", "--allow-external-properties", "--matching", "--ignore-fingerprint")
 
 
 def says_help(answer):

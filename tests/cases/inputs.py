@@ -21,6 +21,7 @@ KINDS = ["pass", "open", "informational", "notApplicable", "review", "fail"]
 STATUSES = ["accepted", "underReview", "rejected"]
 RULES = ["R1", "R2", "R1", "", "R1/a"]
 URIS = ["a.c", "gen/a.c", "gen/b.c", "", "é.c"]
+LINES = (("startLine", 0.9), ("startColumn", 0.2), ("endLine", 0.3), ("endColumn", 0.1))
 NAMES = ["f/v1", "f/v2", "", "f", "é", "\U0001f600", "\uffff"]
 TEXTS = ["", "a", "A", "é", "\U0001f600", "\uffff", "\0\x1f\x7f", '"\\/', "\b\f\n\r\t"]
 
@@ -234,7 +235,7 @@ class Inputs:
 
     def pairs(self):
         names = self.rng.sample(NAMES, self.count(1, 6, 3, 1))
-        return {name: self.value(self.one(["x", "x", "y", None])) for name in names}
+        return {name: self.value(self.one(["x", "x", "y", "", None])) for name in names}
 
     def suppression(self):
         return self.members(
@@ -249,10 +250,20 @@ class Inputs:
         artifact = self.of(
             ("uri", 0.8, self.one(URIS)), ("uriBaseId", 0.3, self.one(["S", ""])), *index
         )
-        physical = self.of(("artifactLocation", 0.9, artifact), ("region", 0.2, dict))
+        region = self.of(*[(name, part, self.line) for name, part in LINES], ("snippet", 0.6, self.snippet))
+        regions = [("region", 0.6, region), ("contextRegion", 0.3, region)]
+        physical = self.of(("artifactLocation", 0.9, artifact), *regions)
         first = self.value(self.of(("physicalLocation", 0.95, physical)))
         others = self.any([[], [None], [1]])
         return others if self.chance(self.wrong) else [first, *others]
+
+    def line(self):
+        return self.any([1, 1, 1, 2, 3, 0, -1, 4294967295, 4294967296, "1", None, True, Raw("1.5"), Raw("1.0")])
+
+    def snippet(self):
+        """A snippet, or something that isn't read as one."""
+        text = self.any(["x", "x", "y", " x", "x\n", "\t", "", "\u00a0", "\u000b", 5, None])
+        return self.any([{"text": text}] * 9 + [{}, None, "x", []])
 
     # ---- a suppression file
 

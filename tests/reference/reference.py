@@ -13,7 +13,7 @@ import sys
 from reference_arguments import NoArguments, Unread, replaced
 from reference_json import Fault, compact, read_json, stripped
 from reference_life import Known, PastLimit, Renewed, failed, file_of, unused
-from reference_matching import partners, region_and_snippet, state
+from reference_matching import has_evidence, partners, region_and_snippet, state
 
 MOST_LOGS = 1_000
 MOST_RUNS = 10_000
@@ -227,15 +227,15 @@ class Head:
 class Record:
     """A result for matching, suppressing and counting."""
 
-    def __init__(self, head, result):
+    def __init__(self, head, result, checks):
         self.tool = head.name
         if result.get("baselineState") == "absent":
             raise Fault("AbsentInput")
         self.kind = one_of(result, "kind", KINDS, "BadKind") or "fail"
         own = one_of(result, "level", LEVELS, "BadLevel")
         self.guid = guid(result, "correlationGuid", "BadGuid")
-        self.full = texts(result, "fingerprints", "BadFingerprint")
-        self.partial = texts(result, "partialFingerprints", "BadFingerprint")
+        self.full = checks.kept(texts(result, "fingerprints", "BadFingerprint"))
+        self.partial = checks.kept(texts(result, "partialFingerprints", "BadFingerprint"))
         self.held = [self.status(it) for it in objects(result, "suppressions", "BadSuppression")]
         self.read_message(result)
         identity, references = self.references(result)
@@ -249,7 +249,9 @@ class Record:
         self.rule = identity
         self.level = head.level(self.kind, own, descriptor, invocation)
         self.place = self.placed(head, location, artifact)
-        self.region, self.snippet = region_and_snippet(result, self.place)
+        self.region, self.snippet = None, None
+        if checks.version == 3:
+            self.region, self.snippet = region_and_snippet(result, self.place)
 
     def status(self, suppression):
         if one_of(suppression, "kind", ("inSource", "external"), "BadSuppression") is None:
@@ -407,10 +409,15 @@ class Policy:
 
 
 class Checks:
-    """What is required of runs beyond the form of a log."""
+    """What is required of runs beyond the form of a log, and what is compared of their results."""
 
-    def __init__(self, require_success=False, allow_external=False):
+    def __init__(self, require_success=False, allow_external=False, version=2, ignored=()):
         self.require_success, self.allow_external = require_success, allow_external
+        self.version, self.ignored = version, set(ignored)
+
+    def kept(self, members):
+        """The fingerprints whose names aren't ignored."""
+        return {name: value for name, value in members.items() if name not in self.ignored}
 
 
 class Finding:
@@ -505,18 +512,20 @@ class Merge:
 
     def record(self, place, head, value):
         try:
-            return Record(head, value)
+            return Record(head, value, self.checks)
         except Fault as fault:
             raise Refused(place, fault.cause) from None
 
     def decide(self):
         """Computes states and suppressions, and the baseline results that no result matches."""
         before = [finding.record for finding in self.baseline]
-        found = partners([finding.record for finding in self.current], before)
+        version = self.checks.version
+        found = partners([finding.record for finding in self.current], before, version)
         self.used = used = set()
         for finding, partner in zip(self.current, found):
             other = None if partner is None else before[partner]
-            finding.state = state(finding.record, other)
+            finding.state = state(finding.record, other, version)
+            finding.is_sure = other is None or version == 2 or has_evidence(finding.record, other)
             for number, entry in enumerate(self.entries):
                 if entry.matches(finding.record):
                     used.add(number)
@@ -584,7 +593,7 @@ def check_number(logs, baselines):
 USAGE = """Usage: sarif_gate [--baseline F]... [--suppress F] [--today N] [--workers N]
     [--fail-on L] [--states LIST] [--max N] [--suppress-out F] [--accept] [--prune]
     [--reason TEXT] [--until N] [--unused F] [--known F] [--adopt] [--require-success]
-    [--allow-external-properties] --out F LOG... [@FILE]...
+    [--allow-external-properties] [--matching N] [--ignore-fingerprint NAME]... --out F LOG... [@FILE]...
 """
 
 
@@ -596,7 +605,7 @@ class Usage(Exception):
         self.status = status
 
 
-RANGES = {"today": (10000101, 99991231), "workers": (1, 64), "max": (0, 2**32 - 1)}
+RANGES = {"today": (10000101, 99991231), "workers": (1, 64), "max": (0, 2**32 - 1), "matching": (2, 3)}
 VALUES = ("suppress", "out", "fail-on", "states", "suppress-out", "reason", "until", "unused", "known")
 FLAGS = ("accept", "prune", "adopt", "require-success", "allow-external-properties")
 # Only their names count here: reference_reports.py makes the reports.
@@ -607,7 +616,7 @@ class Request:
     """What the arguments request."""
 
     def __init__(self, words):
-        self.logs, self.baselines, self.given = [], [], {}
+        self.logs, self.baselines, self.ignored, self.given = [], [], [], {}
         words, plain = list(words), False
         while words:
             word = words.pop(0)
@@ -627,7 +636,8 @@ class Request:
             raise Usage(2)
         states = self.given.get("states", ("new", "updated"))
         self.policy = Policy(self.given.get("fail-on", "error"), self.given.get("max", 0), states)
-        self.checks = Checks("require-success" in self.given, "allow-external-properties" in self.given)
+        flags = [name in self.given for name in ("require-success", "allow-external-properties")]
+        self.checks = Checks(*flags, self.given.get("matching", 2), self.ignored)
 
     def option(self, word, words):
         name, equals, value = word.removeprefix("--").partition("=")
@@ -641,6 +651,8 @@ class Request:
         value = value if equals else words.pop(0)
         if name == "baseline":
             self.baselines.append(value)
+        elif name == "ignore-fingerprint":
+            self.ignored.append(value)
         elif name not in (*VALUES, *RANGES, *REPORTS):
             raise Usage(2)
         else:

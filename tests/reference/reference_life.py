@@ -147,7 +147,7 @@ def left_out(merge, finding, adopt):
     if finding.is_suppressed() and not is_lasting:
         return True
     stops = is_hit(merge, finding) or finding.is_suppressed()
-    return not adopt and finding.state == "new" and stops
+    return not adopt and (finding.state == "new" or not finding.is_sure) and stops
 
 
 def known_result(record, artifacts):
@@ -165,13 +165,21 @@ def known_result(record, artifacts):
             "level": record.level if is_failure else None,
             "ruleId": record.rule or None,
             "message": there({"text": text, "id": identity, "arguments": list(arguments) or None}),
-            "locations": place and [{"physicalLocation": {"artifactLocation": place}}],
+            "locations": place and [{"physicalLocation": there({"artifactLocation": place, "region": region_of(record)})}],
             "correlationGuid": None if record.guid is None else hyphenated(record.guid),
             "fingerprints": record.full or None,
             "partialFingerprints": record.partial or None,
             "suppressions": [{"kind": "external", "status": it} for it in record.held] or None,
         }
     )
+
+
+def region_of(record):
+    """The region of a record with its snippet, or None where it has neither."""
+    names = ("startLine", "startColumn", "endLine", "endColumn")
+    found = there(dict(zip(names, record.region or [])))
+    snippet = {} if record.snippet is None else {"snippet": {"text": record.snippet}}
+    return {**found, **snippet} or None
 
 
 def known_run(tool, records):
@@ -191,7 +199,8 @@ class Known:
         tools = dict.fromkeys(map(tool_of, [*merge.before, *merge.inputs]))
         runs = []
         for tool in tools:
-            for sources, findings in ((merge.inputs, stay), (merge.before, kept)):
+            sides = [(merge.inputs, stay), (merge.before, kept)]
+            for sources, findings in sides if merge.checks.version == 2 else sides[::-1]:
                 for run in sources:
                     records = [it.record for it in findings if it.run is run]
                     if tool_of(run) == tool and records:
