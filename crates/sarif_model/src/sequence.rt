@@ -43,6 +43,14 @@ impl<T> Sequence<T> {
 }
 
 impl<T: Drop> Sequence<T> {
+    /// The items, first to last, taken out.
+    pub fn into_vec(self) -> Vec<T>
+        ensures { result.items ≡ self }
+    {
+        let Sequence { items } = self;
+        items
+    }
+
     /// Adds `item` to the end. Returns `AllocError` if memory runs out; then the list is unchanged, and the item
     /// is dropped.
     pub fn push(&mut self, item: T) -> Result<(), AllocError>
