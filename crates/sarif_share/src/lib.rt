@@ -4,4 +4,4 @@
 
 mod sharing;
 
-pub use sharing::{Sharing, each_of, share_each, share_jobs, share_parts};
+pub use sharing::{Sharing, each_of, join_lists, share_each, share_jobs, share_parts};

@@ -133,8 +133,9 @@ fn each_in_turn<T, U: Drop, F: Fn(&T) -> Result<U, AllocError>>(
     Ok(made)
 }
 
-/// Returns the concatenation of these lists, which have this many elements in all.
-fn join_lists<U: Drop>(
+/// Returns the concatenation of these lists, which have `count` elements in all. Returns `AllocError` if one of them is
+/// one, or if memory for all elements runs out.
+pub fn join_lists<U: Drop>(
     alloc: Global,
     count: usize,
     lists: Vec<Result<Vec<U>, AllocError>>,
