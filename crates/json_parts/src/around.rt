@@ -30,6 +30,13 @@ impl Model for Around {
 }
 
 impl Around {
+    /// The JSON of an object that is open between these two strings.
+    pub fn new(before: String, after: String) -> Around
+        ensures { result ≡ record { before = string_bytes before; after = string_bytes after } }
+    {
+        Around { before, after }
+    }
+
     /// The text before the open place.
     pub fn before(&self) -> &str
         ensures { result.now ≡ self.now.before }

@@ -17,7 +17,7 @@ use Rattle.json_texts.specs.declared.sorting.Member.{Member}
 abbrev cmp : List ℕ → List ℕ → Ordering
 cmp = slice_cmp nat_cmp
 
-same_name : (k l : List ℕ) → cmp k l ≡ Equal → k ≡ l
+pub same_name : (k l : List ℕ) → cmp k l ≡ Equal → k ≡ l
 same_name k l is = (bytes_eq-Decides k l).0 (sym (is_eq-slice_cmp k l) ∙ ap is_eq is)
 
 -- ---- a list with one more member

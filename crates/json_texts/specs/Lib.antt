@@ -1,3 +1,4 @@
+pub mod Around
 pub mod Internal
 pub mod Laws
 pub mod Whole

@@ -17,7 +17,7 @@ use json_parts::{Element, Node};
 use std::alloc::{AllocError, Global};
 
 /// The first capacity of a string, in bytes.
-const ROOM: usize = 256;
+pub(crate) const ROOM: usize = 256;
 
 /// Writes the members of an object, with its brackets.
 #[cycle(writing)]
@@ -45,7 +45,7 @@ fn write_members(
 
 /// Writes a value.
 #[cycle(writing)]
-fn write_value(
+pub(crate) fn write_value(
     alloc: Global,
     out: &mut Writer,
     element: &Element<'_, '_>,
