@@ -55,7 +55,7 @@ module _ (current baseline : List Record) where
       )
 
   -- the two have equal keys at their tier
-  keys_at : (tier : Tier) (i j : ℕ) (r b : Record) → slice_get current i ≡ Some r → slice_get baseline j ≡ Some b → AreMatchedAt current baseline tier i j
+  pub keys_at : (tier : Tier) (i j : ℕ) (r b : Record) → slice_get current i ≡ Some r → slice_get baseline j ≡ Some b → AreMatchedAt current baseline tier i j
       → (key : KeyParts) × (key_of (seen r) tier ≡ Some key) × (key_of (seen b) tier ≡ Some key)
   keys_at tier i j r b mine theirs h = (
     h.paired.key,

@@ -14,7 +14,7 @@ module _ (current partner : Record) where
   abbrev evidence : Bool
   evidence = has_evidence (seen current) (seen partner)
 
-  both : state_in Three current (Some partner) ≡ Unchanged → (is_unchanged current partner ≡ true) × (evidence ≡ true)
+  pub both : state_in Three current (Some partner) ≡ Unchanged → (is_unchanged current partner ≡ true) × (evidence ≡ true)
   both is = and_parts (is_unchanged current partner) evidence (from_unchanged (is_unchanged current partner && evidence) is)
 
   pub unchanged_is_same : state_in Three current (Some partner) ≡ Unchanged → IsUnchanged current partner

@@ -107,7 +107,7 @@ module _ (current baseline : List Record) where
       (Fits-pairs_at current baseline partners tier counted)
       (⊎_elim (λ was. inl was) (λ paired. inr (pair-of current baseline partners tier i j paired)) h)
 
-  after_counted : (partners : List (Option ℕ)) (tier : Tier) → length partners ≡ length current
+  pub after_counted : (partners : List (Option ℕ)) (tier : Tier) → length partners ≡ length current
       → length (after_tier current baseline partners tier) ≡ length current
   after_counted partners tier counted = length-put_all partners (pairs_at current baseline partners tier) ∙ counted
 
@@ -240,7 +240,7 @@ module _ (current baseline : List Record) where
       let more = rank-more same_parts test key i k key s.before s.after s.below lt (ap not left) (parts_refl key) in
       omega (arith, here, there, more)
 
-  paired_once : (partners : List (Option ℕ)) (tier : Tier) (i k j : ℕ) → IsPairedAt current baseline partners tier i j
+  pub paired_once : (partners : List (Option ℕ)) (tier : Tier) (i k j : ℕ) → IsPairedAt current baseline partners tier i j
       → IsPairedAt current baseline partners tier k j → i ≡ k
   paired_once partners tier i k j a b =
       let test = λ (n : ℕ). not (has_partner partners n) in

@@ -19,7 +19,7 @@ use Rattle.sarif_match.proofs.SplitLemmas.{HasPair, none_is_no_some, filter-spli
 -- ---- places in a list
 
 module _ {X : Type 0} where
-  some_is_no_none : (x : X) → Some x ≡ None → ⊥
+  pub some_is_no_none : (x : X) → Some x ≡ None → ⊥
   some_is_no_none x e = cc
 
   -- what is there comes before what isn't
@@ -107,7 +107,7 @@ module _ (current baseline : List Record) where
       ∙ all_keep_old current baseline more (partners_after current baseline before) i j (after_counts current baseline before) was
 
   -- a baseline result with the mark is the match of some result
-  by_someone : (partners : List (Option ℕ)) (j : ℕ) → is_taken partners j ≡ true → (n : ℕ) × (slice_index_or partners n None ≡ Some j)
+  pub by_someone : (partners : List (Option ℕ)) (j : ℕ) → is_taken partners j ≡ true → (n : ℕ) × (slice_index_or partners n None ≡ Some j)
   by_someone [] j taken = absurd (false≢true taken)
   by_someone (o ∷ partners) j taken =
       ⊎_elim (λ here. (0, is_first o here)) (λ later. further (by_someone partners j later))

@@ -16,11 +16,11 @@ use Rattle.sarif_match.proofs.ValueLemmas.{same_text}
 
 -- ---- where a key is from
 
-mapped : {X : Type 0} (f : X → KeyParts) (o : Option X) (key : KeyParts) → option_map f o ≡ Some key → (x : X) × (o ≡ Some x) × (f x ≡ key)
+pub mapped : {X : Type 0} (f : X → KeyParts) (o : Option X) (key : KeyParts) → option_map f o ≡ Some key → (x : X) × (o ≡ Some x) × (f x ≡ key)
 mapped f None key is = absurd (none_is_no_some key is)
 mapped f (Some x) key is = (x, refl, same_Some (f x) key is)
 
-guarded : (guid : Option ℕ) (o : Option KeyParts) (key : KeyParts) → cond (is_some guid) None o ≡ Some key → (guid ≡ None) × (o ≡ Some key)
+pub guarded : (guid : Option ℕ) (o : Option KeyParts) (key : KeyParts) → cond (is_some guid) None o ≡ Some key → (guid ≡ None) × (o ≡ Some key)
 guarded None o key is = (refl, is)
 guarded (Some guid) o key is = absurd (none_is_no_some key is)
 
@@ -28,7 +28,7 @@ unless : (b : Bool) (k key : KeyParts) → cond b None (Some k) ≡ Some key →
 unless false k key is = (refl, same_Some k key is)
 unless true k key is = absurd (none_is_no_some key is)
 
-where_so : (b : Bool) (k key : KeyParts) → cond b (Some k) None ≡ Some key → (b ≡ true) × (k ≡ key)
+pub where_so : (b : Bool) (k key : KeyParts) → cond b (Some k) None ≡ Some key → (b ≡ true) × (k ≡ key)
 where_so true k key is = (refl, same_Some k key is)
 where_so false k key is = absurd (none_is_no_some key is)
 

@@ -91,12 +91,12 @@ four_same eq same t t' r r' p p' m m' e =
     let last = and_parts (place_eq p p') (eq m m') rest.1 in
     (same_text t t' both.0, same_text r r' rest.0, place_same p p' last.0, same m m' last.1)
 
-group_same : (a b : Group) → group_eq a b ≡ true → a ≡ b
+pub group_same : (a b : Group) → group_eq a b ≡ true → a ≡ b
 group_same a b e =
     let all = four_same message_eq message_same a.tool b.tool a.rule_id b.rule_id a.place b.place a.message b.message e in
     λ i. record { tool = all.0 i; rule_id = all.1 i; place = all.2 i; message = all.3 i }
 
-group_refl : (a : Group) → group_eq a a ≡ true
+pub group_refl : (a : Group) → group_eq a a ≡ true
 group_refl a =
     and_from (bytes_eq a.tool a.tool) (bytes_eq a.rule_id a.rule_id && (place_eq a.place a.place && message_eq a.message a.message)) (text_refl a.tool)
     (and_from (bytes_eq a.rule_id a.rule_id) (place_eq a.place a.place && message_eq a.message a.message) (text_refl a.rule_id)

@@ -76,7 +76,7 @@ nobody_marked zero j = refl
 nobody_marked (suc n) zero = refl
 nobody_marked (suc n) (suc j) = nobody_marked n j
 
-nobody_taken : (n j : ℕ) → is_taken (replicate n None) j ≡ false
+pub nobody_taken : (n j : ℕ) → is_taken (replicate n None) j ≡ false
 nobody_taken zero j = refl
 nobody_taken (suc n) j = nobody_taken n j
 

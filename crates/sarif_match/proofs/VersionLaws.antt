@@ -70,7 +70,7 @@ module _ (current baseline : List Record) where
       (partners_below (seen_from_end current) (seen_from_end baseline) (tiers_in Three current baseline))
 
   -- the match of a current result, by its number in the other direction
-  partner_from_end : (i : ℕ) → i < length current
+  pub partner_from_end : (i : ℕ) → i < length current
       → slice_index_or (partners_in Three current baseline) i None
       ≡ option_map (from_end (length baseline)) (slice_index_or found (from_end (length current) i) None)
   partner_from_end i within =
@@ -95,11 +95,11 @@ module _ (current baseline : List Record) where
         c.1 b.1
 
   -- the last tier is by group
-  abbrev but_last : List (List ℕ) → List Tier
+  abbrev pub but_last : List (List ℕ) → List Tier
   but_last names =
       Guid ∷ (Same ∷ (SameText ∷ (map FingerprintHere names ++ (PartialHere ∷ (map Fingerprint names ++ (PartialMoved ∷ (PlaceText ∷ (Place ∷ []))))))))
 
-  last_is_group : (names : List (List ℕ)) → finer_tiers names ≡ but_last names ++ (PlaceLeft ∷ [])
+  pub last_is_group : (names : List (List ℕ)) → finer_tiers names ≡ but_last names ++ (PlaceLeft ∷ [])
   last_is_group names =
       ap (λ (ts : List Tier). Guid ∷ (Same ∷ (SameText ∷ ts)))
       (ap (λ (ts : List Tier). map FingerprintHere names ++ (PartialHere ∷ ts))

@@ -1,7 +1,9 @@
 -- What version 3 sees of a result.
-use Rattle.std.specs.Prelude.{ℕ, List, [], Bool, not, Option, Some, None, ◌==◌, length, filter, if◌then◌else◌}
+use Rattle.std.specs.Prelude.{ℕ, List, [], not, Option, Some, None, ◌==◌, length, filter, if◌then◌else◌}
 use Rattle.sarif_model.specs.WhiteSpace.{is_white_space}
 use Rattle.sarif_model.specs.declared.record.Record.{Record}
+use Rattle.sarif_match.specs.declared.version.MatchingVersion.{MatchingVersion}
+use Rattle.sarif_match.specs.declared.version.MatchingVersion.TheVariants.{Two, Three}
 
 -- the text without white space
 abbrev pub packed : List ℕ → List ℕ
@@ -33,3 +35,9 @@ seen r = record {
   region = r.region;
   snippet = packed_snippet r.snippet;
 }
+
+-- what a version of matching reads from a result, unchanged: version 2 doesn't read snippets, and version 3 reads neither
+-- fingerprints that are not filled nor the result's own suppressions
+abbrev pub as_matched : MatchingVersion → Record → Record
+as_matched Two r = record r { snippet = None }
+as_matched Three r = record (seen r) { snippet = r.snippet }

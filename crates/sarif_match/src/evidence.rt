@@ -129,7 +129,7 @@ fn has_no_members(finding: &Record) -> bool
 }
 
 /// Whether two strings are the same except for white space.
-fn are_same_packed(text: &str, other: &str) -> bool
+pub fn are_same_packed(text: &str, other: &str) -> bool
     ensures { result ≡ bytes_eq (packed text.now) (packed other.now) }
 {
     let mut rest = other.as_bytes();

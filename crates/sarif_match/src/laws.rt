@@ -1,6 +1,6 @@
 //! Laws of tiers, keys, matches and states. Each law is the contract of a function that does nothing.
 ghost use Rattle.std.specs.Prelude.{◌≡◌, ◌≢◌, ◌<◌, ◌↔◌, ◌⊎◌, ◌||◌, ◌∷◌, ◌++◌, [], ℕ, List, Some, None, true, false};
-ghost use Rattle.std.specs.Prelude.{IsTrue, length, slice_get, slice_index_or};
+ghost use Rattle.std.specs.Prelude.{IsTrue, length, map, slice_get, slice_index_or};
 ghost use Rattle.std.specs.Ordering.{nat_cmp};
 ghost use Rattle.std.specs.Cmp.Lexicographic.{slice_cmp};
 ghost use Rattle.std.specs.List.Sorted.{IsStrictlySortedBy};
@@ -8,13 +8,18 @@ ghost use Rattle.sarif_model.specs.declared.record.Record.{Record};
 ghost use Rattle.sarif_model.specs.declared.kinds.State.TheVariants.{Unchanged};
 ghost use Rattle.sarif_match.specs.declared.tier_key.Key.{Key};
 ghost use Rattle.sarif_match.specs.declared.version.MatchingVersion.{MatchingVersion};
-ghost use Rattle.sarif_match.specs.declared.version.MatchingVersion.TheVariants.{Three};
+ghost use Rattle.sarif_match.specs.declared.version.MatchingVersion.TheVariants.{Two, Three};
 ghost use Rattle.sarif_match.specs.Key.{group_of};
 ghost use Rattle.sarif_match.specs.KeyParts.{KeyParts, parts_of};
 ghost use Rattle.sarif_match.specs.Internal.Queues.{same_key};
 ghost use Rattle.sarif_match.specs.declared.tier.Tier.{Tier};
 ghost use Rattle.sarif_match.specs.declared.tier.Tier.TheVariants.{PlaceLeft};
 ghost use Rattle.sarif_match.specs.Internal.SameFinding.{AreMatchedAt, AreTheSame, HaveUnlikeSnippets, match_in};
+ghost use Rattle.sarif_match.specs.Internal.FromEnd.{ArePartnersFromEnd};
+ghost use Rattle.sarif_match.specs.Internal.Hidden.{AreEqualInTwo, HasEachNameOnce, HaveSameSnippet};
+ghost use Rattle.sarif_match.specs.Internal.Leaving.{AreReordered, AreWithoutNames};
+ghost use Rattle.sarif_match.specs.Internal.Leaving.{LeaveAsMany, partners_by};
+ghost use Rattle.sarif_match.specs.Internal.Leaving.{tiers_without_places, without_text};
 ghost use Rattle.sarif_match.specs.Internal.Paired.{ArePartners, IsPairedAt, key_at, key_in_at};
 ghost use Rattle.sarif_match.specs.Partners.{is_taken, partners_after, partners_in, partners_of};
 ghost use Rattle.sarif_match.specs.Seen.{seen};
@@ -100,7 +105,8 @@ pub fn unchanged_results_have_evidence()
 /// the match of no result, they have no key in common at any tier. So in version 3 two results of one group, with no
 /// GUID, are not both left.
 pub fn nothing_is_left_in_either_version()
-    ensures keys { (version : MatchingVersion) (current baseline : List Record) (before after : List Tier)
+    ensures keys { (version : MatchingVersion) (current baseline : List Record)
+        (before after : List Tier)
         (tier : Tier) (i j : ℕ) (key : KeyParts) →
         tiers_in version current baseline ≡ before ++ tier ∷ after
         → slice_index_or (partners_in version current baseline) i None ≡ None
@@ -148,4 +154,57 @@ pub fn matches_have_evidence_but_for_the_last_tier()
         AreMatchedAt current baseline tier i j →
         (tier ≡ PlaceLeft)
         ⊎ ((has_evidence (seen r) (seen b) ≡ true) ⊎ HaveUnlikeSnippets r b) }
+{}
+
+/// As many: without the tiers PlaceText and Place, version 3 leaves as many current results of each group new, and as
+/// many of the baseline absent. So these tiers only say which results of a group match.
+pub fn as_many_are_left_without_the_tiers_of_places()
+    ensures { (current baseline : List Record) → LeaveAsMany current baseline
+        (partners_in Three current baseline)
+        (partners_by (tiers_without_places current baseline) current baseline) }
+{}
+
+/// As many: if no result has a GUID or a fingerprint of either type, both versions leave as many results of each group
+/// new and absent. In version 3 they are as many whichever tiers there are before the last one, and without regions
+/// and snippets.
+pub fn as_many_are_left_without_guids_and_fingerprints()
+    ensures versions { (current baseline : List Record) →
+        AreWithoutNames current → AreWithoutNames baseline → LeaveAsMany current baseline
+        (partners_in Three current baseline) (partners_in Two current baseline) }
+    ensures tiers { (current baseline : List Record) (tiers : List Tier) →
+        AreWithoutNames current → AreWithoutNames baseline → LeaveAsMany current baseline
+        (partners_in Three current baseline)
+        (partners_by (tiers ++ PlaceLeft ∷ []) current baseline) }
+    ensures text { (current baseline : List Record) →
+        AreWithoutNames current → AreWithoutNames baseline → LeaveAsMany current baseline
+        (partners_in Three current baseline)
+        (partners_in Three (map without_text current) (map without_text baseline)) }
+{}
+
+/// In version 3 a baseline result is the match of a current result if and only if the two match at one tier: they have
+/// equal keys at it, no earlier tier matched either of them, and as many unmatched current results with that key come
+/// after the one as unmatched baseline results with it come after the other. So the last matches the last.
+pub fn ranks_count_from_the_end_in_version_3()
+    ensures { (current baseline : List Record) (i j : ℕ) →
+        (slice_index_or (partners_in Three current baseline) i None ≡ Some j)
+        ↔ ArePartnersFromEnd current baseline i j }
+{}
+
+/// In version 3 an unchanged result and its match have the same snippet, or they have equal keys at a tier of version 2.
+/// Snippets are compared without their white space, and fingerprints whose value is the empty string are left out. In the
+/// `fingerprints` of both, each name occurs once.
+pub fn unchanged_results_have_one_snippet_or_are_equal_in_version_2()
+    ensures { (current baseline : List Record) (i j : ℕ) (r b : Record) →
+        slice_get current i ≡ Some r → slice_get baseline j ≡ Some b →
+        HasEachNameOnce r.full → HasEachNameOnce b.full →
+        slice_index_or (partners_in Three current baseline) i None ≡ Some j →
+        state_in Three r (Some b) ≡ Unchanged →
+        HaveSameSnippet (seen r) (seen b) ⊎ AreEqualInTwo (seen r) (seen b) }
+{}
+
+/// If the baseline has the same results in any order, each current result has a match in either version, so none is new.
+pub fn the_same_results_match_in_any_order()
+    ensures { (version : MatchingVersion) (current baseline : List Record) (i : ℕ) →
+        AreReordered current baseline → i < length current →
+        (j : ℕ) × (slice_index_or (partners_in version current baseline) i None ≡ Some j) }
 {}

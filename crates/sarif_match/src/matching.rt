@@ -13,7 +13,7 @@ ghost use Rattle.sarif_model.specs.Limits.{most_results};
 use crate::finer_tiers::finer_tiers;
 use crate::pairing::pair_up;
 use crate::progress::Progress;
-use crate::seeing::seen_from_end;
+use crate::shortening::short_from_end;
 use crate::side::IndexedSide;
 use crate::tier::Tier;
 use crate::tier_list::tiers_of;
@@ -128,7 +128,8 @@ pub fn match_all_in<S: BuildHasher + Copy>(
     }
 }
 
-/// Matches by version 3: both lists as it sees them, in reverse order, and each number turned back.
+/// Matches by version 3: both lists as it sees them, in reverse order and as short records, and each number turned
+/// back.
 fn match_from_end<S: BuildHasher + Copy>(
     alloc: Global,
     hasher: S,
@@ -140,9 +141,8 @@ fn match_from_end<S: BuildHasher + Copy>(
     ensures { IfOk result (λ matching. matching ≡ partners_in Three current.now baseline.now) }
 {
     let tiers = finer_tiers(alloc, current, baseline)?;
-    let current_seen = seen_from_end(alloc, current)?;
-    let baseline_seen = seen_from_end(alloc, baseline)?;
-    let progress = match_tiers(alloc, hasher, &current_seen, &baseline_seen, &tiers)?;
+    let short = short_from_end(alloc, hasher, current, baseline)?;
+    let progress = match_tiers(alloc, hasher, &short.current, &short.baseline, &tiers)?;
     Matching::turned(alloc, &progress)
 }
 

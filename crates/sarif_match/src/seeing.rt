@@ -49,7 +49,7 @@ pub(crate) fn seen(alloc: Global, finding: &Record) -> Result<Record, AllocError
 }
 
 /// The same place, whose strings are shared.
-fn shared_place(place: &Place) -> Result<Place, AllocError>
+pub(crate) fn shared_place(place: &Place) -> Result<Place, AllocError>
     ensures { IfOk result (λ shared. shared ≡ place.now) }
 {
     Ok(Place {
@@ -59,7 +59,7 @@ fn shared_place(place: &Place) -> Result<Place, AllocError>
 }
 
 /// The same message, whose strings are shared.
-fn shared_message(alloc: Global, message: &Message) -> Result<Message, AllocError>
+pub(crate) fn shared_message(alloc: Global, message: &Message) -> Result<Message, AllocError>
     ensures { IfOk result (λ shared. shared ≡ message.now) }
 {
     Ok(Message {
@@ -70,7 +70,7 @@ fn shared_message(alloc: Global, message: &Message) -> Result<Message, AllocErro
 }
 
 /// The same string, if there is one.
-fn shared_if_there(text: &Option<Text>) -> Result<Option<Text>, AllocError>
+pub(crate) fn shared_if_there(text: &Option<Text>) -> Result<Option<Text>, AllocError>
     ensures { IfOk result (λ shared. shared ≡ text.now) }
 {
     match text {
@@ -86,6 +86,17 @@ fn shared_texts(alloc: Global, texts: &[Text]) -> Result<Sequence<Text>, AllocEr
     let mut shared = Sequence::new(alloc);
     for text in texts {
         shared.push(text.clone()?)?;
+    }
+    Ok(shared)
+}
+
+/// The same members, whose strings are shared.
+pub(crate) fn shared_members(alloc: Global, members: &[(Text, Text)]) -> Result<Pairs, AllocError>
+    ensures { IfOk result (λ shared. shared ≡ members.now) }
+{
+    let mut shared = Sequence::new(alloc);
+    for member in members {
+        shared.push((member.0.clone()?, member.1.clone()?))?;
     }
     Ok(shared)
 }
@@ -123,8 +134,8 @@ fn filled_text(text: Text) -> Result<Option<Text>, AllocError>
     Ok(Some(text))
 }
 
-/// A string without its white space.
-fn packed(alloc: Global, text: &str) -> Result<Text, AllocError>
+/// Returns a string without its white space. Returns `AllocError` if memory for it runs out.
+pub fn packed(alloc: Global, text: &str) -> Result<Text, AllocError>
     ensures { IfOk result (λ kept. kept ≡ packed text.now) }
 {
     let mut kept = String::new(alloc);

@@ -1,4 +1,4 @@
-use Rattle.std.proofs.Common.{rules, ◌≡◌, ◌==◌, not, true, Bool, List, ℕ, [], ◌∷◌, cond, length, map, Bor, ap, sym, ◌∙◌}
+use Rattle.std.proofs.Common.{rules, ◌≡◌, ◌==◌, not, true, Bool, List, ℕ, [], ◌∷◌, cond, length, map, ap, sym, ◌∙◌}
 use Rattle.sarif_match.specs.Tiers.{with_names}
 use Rattle.sarif_match.proofs.NameLemmas.{lent_names, lent_names-insert_key}
 use Rattle.sarif_match.proofs.finer_tiers.add_if_filled.Goals as goal
