@@ -1,6 +1,6 @@
 -- Which results are copies: they have a URI and a region, and are equal in each field to an earlier result. The first
 -- of the results that are alike is the finding of each.
-use Rattle.std.specs.Prelude.{◌==◌, ◌+◌, ℕ, Bool, ◌&&◌, List, [], ◌∷◌, ◌++◌, length, Option, Some, None, if◌then◌else◌, is_some, unwrap_or, bytes_eq}
+use Rattle.std.specs.Prelude.{◌==◌, ◌+◌, ℕ, Bool, true, false, ◌&&◌, not, List, [], ◌∷◌, ◌++◌, map, slice_index_or, length, Option, Some, None, if◌then◌else◌, is_some, unwrap_or, bytes_eq}
 use Rattle.std.specs.Option.{option_eq}
 use Rattle.std.specs.Cmp.Lexicographic.{pointwise}
 use Rattle.sarif_model.specs.declared.kinds.Status.{Status}
@@ -57,3 +57,29 @@ findings_after before (r ∷ rs) = finding_of before r ∷ findings_after (befor
 -- for each result the number of its finding
 abbrev pub findings_of : List Record → List ℕ
 findings_of rs = findings_after [] rs
+
+-- ---- findings and copies apart
+
+-- whether each result is a copy, where the first has number n: it isn't its own finding
+abbrev pub copies_from : ℕ → List ℕ → List Bool
+copies_from n [] = []
+copies_from n (first ∷ firsts) = not (first == n) ∷ copies_from (n + 1) firsts
+
+-- whether each result is a copy
+abbrev pub copies_of : List Record → List Bool
+copies_of rs = copies_from 0 (findings_of rs)
+
+-- for each result how many findings are before it, where n are before the first
+abbrev pub findings_before : ℕ → List Bool → List ℕ
+findings_before n [] = []
+findings_before n (true ∷ copies) = n ∷ findings_before n copies
+findings_before n (false ∷ copies) = n ∷ findings_before (n + 1) copies
+
+-- for each result the number of its finding, where the findings alone are counted
+abbrev pub numbers_of : List Record → List ℕ
+numbers_of rs =
+    map (λ first. slice_index_or (findings_before 0 (copies_of rs)) first 0) (findings_of rs)
+
+-- for each result what its finding has; these are the numbers of the findings
+abbrev pub spread : {X : Type 0} → X → List ℕ → List X → List X
+spread none numbers xs = map (λ n. slice_index_or xs n none) numbers

@@ -1,5 +1,5 @@
 //! The finding of each result: the first result that is alike to it.
-ghost use Rattle.std.specs.Prelude.{◌≡◌, ◌≤◌, ◌++◌, ◌∷◌, [], List, Some, cond, length, unwrap_or, IfOk, OnOk};
+ghost use Rattle.std.specs.Prelude.{◌≡◌, ◌≤◌, ◌++◌, ◌∷◌, [], List, Some, cond, length, map, unwrap_or, IfOk, OnOk};
 ghost use Rattle.std.specs.HashMap.{get};
 ghost use Rattle.sarif_model.specs.Limits.{most_results};
 ghost use Rattle.sarif_model.specs.declared.record.Record.{Record};
@@ -73,6 +73,27 @@ pub fn findings<S: BuildHasher + Copy>(
     let mut number = 0;
     for found in records {
         firsts.push(add_result(&mut table, found, number)?)?;
+        number += 1;
+    }
+    Ok(firsts)
+}
+
+/// For each of these results the number of its finding, as [`findings`] returns it.
+pub(crate) fn findings_among<'a, S: BuildHasher + Copy>(
+    alloc: Global,
+    hasher: S,
+    records: &[&'a Record],
+) -> Result<Vec<u32>, AllocError>
+    requires { length records.now ≤ most_results }
+    ensures firsts { IfOk result
+        (λ firsts. firsts.items ≡ findings_of (map (λ r. r.now) records.now)) }
+    ensures count { IfOk result (λ firsts. length firsts.items ≡ length records.now) }
+{
+    let mut table = IndexMap::with_hasher(alloc, hasher);
+    let mut firsts = Vec::new(alloc);
+    let mut number = 0;
+    for found in records {
+        firsts.push(add_result(&mut table, *found, number)?)?;
         number += 1;
     }
     Ok(firsts)

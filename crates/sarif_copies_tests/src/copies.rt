@@ -1,5 +1,5 @@
 //! The findings of results, computed by hand.
-use sarif_copies::findings;
+use sarif_copies::{Apart, findings, set_apart};
 use sarif_model::{
     Kind, Level, Message, Place, Record, Region, Sequence, Status, Text, copy_if_there,
 };
@@ -174,5 +174,45 @@ fn each_field_tells_results_apart(rt: HostRuntime) -> Result<(), Fail> {
     }
     let firsts = found(alloc, seed, records.as_slice())?;
     assert_eq!(rt; firsts.as_slice(), wanted.as_slice());
+    Ok(())
+}
+
+/// Few results set apart.
+fn apart(alloc: Global, seed: RandomState, records: &[Record]) -> Result<Apart, Fail> {
+    let mut list = Vec::new(alloc);
+    for found in records {
+        list.push(found)?;
+    }
+    if list.len() > 1000 {
+        return Err(Fail::new("too many results"));
+    }
+    Ok(set_apart(alloc, seed, list.as_slice())?)
+}
+
+#[test]
+fn findings_are_counted_alone(rt: HostRuntime) -> Result<(), Fail> {
+    let seed = RandomState::new(&rt)?;
+    for (sketches, copies, numbers) in [
+        (&[H, H, B][..], &[false, true, false][..], &[0, 0, 1][..]),
+        (
+            &[H, H, B, H][..],
+            &[false, true, false, true][..],
+            &[0, 0, 1, 0][..],
+        ),
+        (
+            &[B, H, B, H][..],
+            &[false, false, true, true][..],
+            &[0, 1, 0, 1][..],
+        ),
+        (&[][..], &[][..], &[][..]),
+    ] {
+        let mut records = Vec::new(rt.alloc());
+        for sketch in sketches {
+            records.push(record(rt.alloc(), sketch)?)?;
+        }
+        let found = apart(rt.alloc(), seed, records.as_slice())?;
+        assert_eq!(rt; found.copies.as_slice(), copies);
+        assert_eq!(rt; found.numbers.as_slice(), numbers);
+    }
     Ok(())
 }
