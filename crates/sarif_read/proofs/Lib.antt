@@ -9,6 +9,7 @@ pub mod LogText
 pub mod NoFraction
 pub mod NoMembers
 pub mod NodeValues
+pub mod Only
 pub mod PickedMembers
 pub mod ReadResults
 pub mod RunOf

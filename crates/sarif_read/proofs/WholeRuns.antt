@@ -25,11 +25,11 @@ any_element no_items = refl
 any_element (item d ds) = ap (λ b. has_float d || b) (any_element ds)
 
 -- a value that may be there holds none
-WholeIf : Option Data → Type 0
+pub WholeIf : Option Data → Type 0
 WholeIf None = Unit {0}
 WholeIf (Some d) = has_float d ≡ false
 
-found_whole : (k : List ℕ) (ms : Members) → members_have_float ms ≡ false → WholeIf (get_member k ms)
+pub found_whole : (k : List ℕ) (ms : Members) → members_have_float ms ≡ false → WholeIf (get_member k ms)
 unfolding WholeIf
 found_whole k no_members h = tt
 found_whole k (member own d ms) h =
@@ -40,7 +40,7 @@ found_whole k (member own d ms) h =
       | Greater ↦ found_whole k ms both.1
     ]
 
-runs_whole : (found : Option Data) → WholeIf found → list_any has_float (elements_or_none (option_and_then as_array found)) ≡ false
+pub runs_whole : (found : Option Data) → WholeIf found → list_any has_float (elements_or_none (option_and_then as_array found)) ≡ false
 unfolding WholeIf
 runs_whole None h = refl
 runs_whole (Some null) h = refl

@@ -13,6 +13,7 @@ use crate::read_message::ReadMessage;
 use crate::references::{message_in, rule_in};
 use crate::success::has_unsuccessful;
 use crate::whole::RawRun;
+use json_parts::Node;
 use sarif_model::{FirstLocation, MessageReference, RuleReference};
 use serde_json::Value;
 use std::alloc::{AllocError, Global};
@@ -36,9 +37,10 @@ impl<'t, 'a> IndexedRun<'t, 'a> {
     ghost use Rattle.sarif_model.specs.Run.{results_of, results_array, result_at};
     ghost use Rattle.sarif_read.specs.Internal.Bare.{bare, is_bare};
     ghost use Rattle.sarif_read.specs.Failed.{failed};
-    ghost use Rattle.sarif_read.specs.Internal.Listed.{nodes_of};
+    ghost use Rattle.sarif_read.specs.Internal.Listed.{nodes_of, value_at};
     ghost use Rattle.sarif_read.specs.Internal.Indexed.{run_of};
     ghost use Rattle.sarif_read.specs.Internal.Picked.{picked};
+    ghost use Rattle.sarif_read.specs.Unmarked.{without_marked};
 
     /// A run of an object without results, and of its results.
     pub(crate) fn new(bare: Value, results: Listed<'t, 'a>) -> IndexedRun<'t, 'a>
@@ -88,6 +90,19 @@ impl<'t, 'a> IndexedRun<'t, 'a> {
         &self.bare
     }
 
+    /// The run without those of its results that are marked. Returns `AllocError` if memory for the list of the
+    /// others runs out.
+    #[tactic(auto, using(crate::proofs::RunOf::count_results, crate::proofs::Only::few_kept))]
+    pub fn without(self, alloc: Global, marked: &[bool]) -> Result<IndexedRun<'t, 'a>, AllocError>
+        requires { length marked.now ≡ length (results_of (run_of self)) }
+        ensures { IfOk result
+            (λ kept. run_of kept ≡ without_marked marked.now (run_of self.entry)) }
+    {
+        let IndexedRun { bare, results } = self;
+        let results = results.without(alloc, marked)?;
+        Ok(IndexedRun { bare, results })
+    }
+
     /// The run without its results, taken out.
     #[tactic(auto, using(crate::proofs::RunOf::bare_run))]
     pub fn into_bare(self) -> Value
@@ -107,6 +122,18 @@ impl<'t, 'a> IndexedRun<'t, 'a> {
         match &self.results {
             Listed::Array(nodes) => nodes[seq as usize].to_value(alloc),
             Listed::Missing | Listed::Null => Ok(Value::Null),
+        }
+    }
+
+    /// The node of result `seq` of the run, numbered from 0.
+    #[tactic(auto, using(crate::proofs::RunOf::count_results, crate::proofs::RunOf::nth_result))]
+    pub fn node(&self, seq: u32) -> &Node<'t, 'a>
+        requires { seq < length (results_of (run_of self.now)) }
+        ensures { value_at result.now ≡ result_at (run_of self.now) seq }
+    {
+        match &self.results {
+            Listed::Array(nodes) => &nodes[seq as usize],
+            Listed::Missing | Listed::Null => unreachable!(),
         }
     }
 

@@ -35,3 +35,13 @@ known_item p seq found item known is present made =
     let both : (skips p.source && is_absent_result x) ≡ false = ap (λ b. b && is_absent_result x) known ∙ there in
     made ∙ ap (record_item p.options.records p.run) is ∙ recorded p.options.records p.run x
     ∙ ap (λ b. if b then Skipped else item_by (record_of p.options.records p.run seq)) (sym both)
+
+-- and so does that of a current result
+pub current_item : (p : Placed) (seq : ℕ) (found : Data) (item : Item) → skips p.source ≡ false
+    → found ≡ picked record_names (result_at p.run seq) → item ≡ record_item p.options.records p.run found → item ≡ item_of p seq
+unfolding record_of
+current_item p seq found item current is made =
+    let x : Data = result_at p.run seq in
+    let none : (skips p.source && is_absent_result x) ≡ false = ap (λ b. b && is_absent_result x) current in
+    made ∙ ap (record_item p.options.records p.run) is ∙ recorded p.options.records p.run x
+    ∙ ap (λ b. if b then Skipped else item_by (record_of p.options.records p.run seq)) (sym none)

@@ -5,3 +5,4 @@ pub mod KnownItems
 pub mod NamedFiles
 pub mod NoneNamed
 pub mod SpotsWithin
+pub mod Unmarked

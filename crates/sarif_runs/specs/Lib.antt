@@ -10,3 +10,4 @@ pub mod Placed
 pub mod Reading
 pub mod Record
 pub mod Rules
+pub mod Unmarked

@@ -12,6 +12,7 @@ use crate::item::Item;
 use crate::making::{copy_tool_name, make_record_of};
 use crate::open::open_value;
 use crate::run_options::RunOptions;
+use json_parts::Node;
 use sarif_model::{Fault, FirstLocation, Refusal, RuleReference, Source, Text};
 use sarif_read::{IndexedRun, ReadMessage};
 use serde_json::Value;
@@ -55,8 +56,10 @@ impl<'t, 'a> OpenedRun<'t, 'a> {
     ghost use Rattle.sarif_runs.specs.Internal.Found.{record_item};
     ghost use Rattle.sarif_runs.specs.Judging.{opening_fault};
     ghost use Rattle.sarif_runs.specs.Internal.Opened.{placed_of};
+    ghost use Rattle.sarif_runs.specs.Unmarked.{placed_without};
     ghost use Rattle.sarif_read.specs.Internal.Bare.{bare};
     ghost use Rattle.sarif_read.specs.Failed.{failed};
+    ghost use Rattle.sarif_read.specs.Internal.Listed.{value_at};
     ghost use Rattle.sarif_read.specs.Internal.Picked.{picked};
     ghost use Rattle.sarif_model.specs.Internal.FirstLocation.{IsFirstLocation};
     ghost use Rattle.sarif_model.specs.Internal.References.{IsRuleReference};
@@ -187,6 +190,14 @@ impl<'t, 'a> OpenedRun<'t, 'a> {
         self.run.pick_result(alloc, seq, names)
     }
 
+    /// The node of result `seq` of the run, numbered from 0.
+    pub fn node(&self, seq: u32) -> &Node<'t, 'a>
+        requires { seq < length (results_of (placed_of self.now).run) }
+        ensures { value_at result.now ≡ result_at (placed_of self.now).run seq }
+    {
+        self.run.node(seq)
+    }
+
     /// What reports show of the first location of result `seq` of the run, numbered from 0.
     pub fn first_location(&self, seq: u32) -> FirstLocation<'a>
         requires { seq < length (results_of (placed_of self.now).run) }
@@ -210,6 +221,32 @@ impl<'t, 'a> OpenedRun<'t, 'a> {
         ensures { IfOk result (IsReadMessage (result_at (placed_of self.now).run seq)) }
     {
         self.run.message(alloc, seq)
+    }
+
+    /// The run without those of its results that are marked; its error, if it has one, stays. Returns `AllocError` if
+    /// memory for the list of the others runs out.
+    pub fn without(self, alloc: Global, marked: &[bool]) -> Result<OpenedRun<'t, 'a>, AllocError>
+        requires { length marked.now ≡ length (results_of (placed_of self).run) }
+        ensures { IfOk result
+            (λ kept. placed_of kept ≡ placed_without marked.now (placed_of self.entry)) }
+    {
+        let OpenedRun {
+            source,
+            number: at,
+            options: how,
+            run,
+            tool,
+            head,
+        } = self;
+        let run = run.without(alloc, marked)?;
+        Ok(OpenedRun {
+            source,
+            number: at,
+            options: how,
+            run,
+            tool,
+            head,
+        })
     }
 
     /// The run without its results, taken out.
