@@ -11,11 +11,12 @@ use Rattle.std.proofs.lemmas.List.{take-append-drop}
 use Rattle.std.proofs.lemmas.List.Elements.{All-contains, Contains-get_or}
 use Rattle.std.proofs.lemmas.Map.Views.{Contains-from_any}
 use Rattle.std.proofs.lemmas.Slice.Eq.{bytes_eq-Decides, slice_eq-Decides}
+use Rattle.sarif_match.specs.Seen.{packed}
 use Rattle.sarif_model.specs.declared.record.Record.{Record}
 use Rattle.sarif_entries.specs.declared.condition.Condition.{Condition}
-use Rattle.sarif_entries.specs.declared.condition.Condition.TheVariants.{Tool, RuleId, Uri, UriPrefix, Guid, Fingerprints, PartialFingerprints, Message, MessageId, MessageArguments}
+use Rattle.sarif_entries.specs.declared.condition.Condition.TheVariants.{Tool, RuleId, Uri, UriPrefix, Guid, Fingerprints, PartialFingerprints, Message, MessageId, MessageArguments, Snippet}
 use Rattle.sarif_entries.specs.declared.entry.Entry.{Entry}
-use Rattle.sarif_entries.specs.Condition.{is_text, begins, is_guid, is_pair, are_among, holds, Holds}
+use Rattle.sarif_entries.specs.Condition.{is_text, begins, is_guid, is_snippet, is_pair, are_among, holds, Holds}
 use Rattle.sarif_entries.specs.Matching.{hold, is_past, matches, Meets, Matches}
 
 text_means : (wanted found : List ℕ) → Decides (bytes_eq wanted found) (found ≡ wanted)
@@ -42,6 +43,17 @@ begins_means wanted (Some found) = (
       let is : Some found ≡ Some (wanted ++ rest) = h.1 in
       let split : found ≡ wanted ++ rest = cc in
       (bytes_eq-Decides wanted (take (length wanted) found)).1 (rw split (sym (take-append_seam wanted rest))),
+)
+
+snippet_means : (wanted : List ℕ) (found : Option (List ℕ))
+    → Decides (is_snippet wanted found) ((text : List ℕ) × (found ≡ Some text) × (packed text ≡ packed wanted))
+snippet_means wanted None = (λ t. absurd (false≢true t), λ h. let none : None ≡ Some h.0 = h.1 in cc)
+snippet_means wanted (Some found) = (
+  λ t. (found, refl, (text_means (packed wanted) (packed found)).0 t),
+  λ h.
+      let is : Some found ≡ Some h.0 = h.1 in
+      let same : found ≡ h.0 = cc in
+      (text_means (packed wanted) (packed found)).1 (ap packed same ∙ h.2),
 )
 
 texts_mean : (wanted found : List (List ℕ)) → Decides (pointwise bytes_eq wanted found) (found ≡ wanted)
@@ -88,6 +100,7 @@ holds_means (PartialFingerprints pairs) r = among_means pairs r.partial
 holds_means (Message text) r = there_means text r.message.text
 holds_means (MessageId id) r = there_means id r.message.id
 holds_means (MessageArguments texts) r = texts_mean texts r.message.args
+holds_means (Snippet text) r = snippet_means text r.snippet
 
 -- all conditions
 pub meets : (cs : List Condition) (r : Record) → Decides (hold cs r) (Meets cs r)

@@ -7,9 +7,10 @@ use Rattle.std.specs.Bool.{Decides}
 use Rattle.std.specs.Cmp.Lexicographic.{pointwise}
 use Rattle.std.specs.List.{list_any}
 use Rattle.std.specs.Option.{option_map_or}
+use Rattle.sarif_match.specs.Seen.{packed}
 use Rattle.sarif_model.specs.declared.record.Record.{Record}
-use Rattle.sarif_entries.specs.Internal.Filing.{key_of, keys_under, keys_at, message_keys}
-use Rattle.sarif_entries.specs.Condition.{is_text}
+use Rattle.sarif_entries.specs.Internal.Filing.{key_of, key_with, keys_under, keys_at, keys_with, message_keys}
+use Rattle.sarif_entries.specs.Condition.{is_snippet, is_text}
 use Rattle.sarif_entries.specs.Matching.{is_empty}
 
 -- there is a string, and it is the required one, if one is required
@@ -98,7 +99,8 @@ pub in_message_keys : (r : Record) (wanted_uri wanted_text wanted_id : Option (L
     → is_there wanted_uri r.place.uri ≡ true → is_there wanted_text r.message.text ≡ true → is_there wanted_id r.message.id ≡ true
     → are_wanted wanted r.message.args ≡ true → is_named wanted_text wanted_id wanted ≡ true
     → is_in (key_of wanted_uri (if is_some wanted_text then wanted_text else wanted_id) wanted) (message_keys r) ≡ true
-in_message_keys r wanted_uri wanted_text wanted_id wanted u t i a named = with_uri wanted_uri r.place.uri u
+in_message_keys r wanted_uri wanted_text wanted_id wanted u t i a named =
+    in_left (key_of wanted_uri head wanted) _ _ (with_uri wanted_uri r.place.uri u)
   where
     head : Option (List ℕ)
     head = if is_some wanted_text then wanted_text else wanted_id
@@ -115,3 +117,29 @@ in_message_keys r wanted_uri wanted_text wanted_id wanted u t i a named = with_u
         let same : w ≡ uri = (bytes_eq-Decides w uri).0 u in
         ap (λ word. is_in (key_of (Some word) head wanted) (keys_at None r.message ++ keys_at (Some uri) r.message)) same
         ∙ in_right (key_of (Some uri) head wanted) (keys_at None r.message) (keys_at (Some uri) r.message) (at (Some uri))
+
+-- the key of a snippet is among those of a result that has it
+pub in_snippet_keys : (r : Record) (wanted : List ℕ) (wanted_uri : Option (List ℕ)) → is_snippet wanted r.snippet ≡ true
+    → is_there wanted_uri r.place.uri ≡ true → is_in (key_with wanted wanted_uri) (message_keys r) ≡ true
+in_snippet_keys r wanted wanted_uri s u =
+    in_right (key_with wanted wanted_uri)
+    (keys_at None r.message ++ (if is_some r.place.uri then keys_at r.place.uri r.message else [])) _
+    (with_snippet r.snippet s)
+  where
+    with_uri : (found : List ℕ) (wanted_uri uri : Option (List ℕ)) → packed wanted ≡ packed found → is_there wanted_uri uri ≡ true
+        → is_in (key_with wanted wanted_uri) (keys_with found uri) ≡ true
+    with_uri found None uri same u =
+        ap (λ text. is_in (text ∷ []) (keys_with found uri)) same
+        ∙ or_left (pointwise bytes_eq (key_with found None) (key_with found None)) _ (itself (key_with found None))
+    with_uri found (Some w) None same u = absurd (false≢true u)
+    with_uri found (Some w) (Some uri) same u =
+        let one : w ≡ uri = (bytes_eq-Decides w uri).0 u in
+        let own : List (List ℕ) = key_with found (Some uri) in
+        ap (λ text. is_in (text ∷ w ∷ []) (keys_with found (Some uri))) same
+        ∙ ap (λ word. is_in (packed found ∷ word ∷ []) (keys_with found (Some uri))) one
+        ∙ or_right (pointwise bytes_eq own (key_with found None)) _ (or_left (pointwise bytes_eq own own) false (itself own))
+
+    with_snippet : (o : Option (List ℕ)) → is_snippet wanted o ≡ true
+        → is_in (key_with wanted wanted_uri) (option_map_or (λ snippet. keys_with snippet r.place.uri) o []) ≡ true
+    with_snippet None s = absurd (false≢true s)
+    with_snippet (Some found) s = with_uri found wanted_uri r.place.uri ((bytes_eq-Decides (packed wanted) (packed found)).0 s) u

@@ -2,15 +2,16 @@
 use Rattle.std.specs.Prelude.{◌≡◌, ℕ, Bool, true, false, ◌&&◌, List, [], ◌∷◌, ◌++◌, Option, Some, None, Contains, nat_eq, bytes_eq, codes, option_map, option_and_then, if◌then◌else◌}
 use Rattle.std.specs.Cmp.Lexicographic.{pointwise}
 use Rattle.std.specs.List.{list_any, list_all, starts_with}
+use Rattle.sarif_match.specs.Seen.{packed}
 use Rattle.sarif_model.specs.declared.record.Record.{Record}
 use Rattle.sarif_entries.specs.contracts.condition.ConditionKindPartialEq.TheImpl as derived
 use Rattle.sarif_entries.specs.contracts.condition.ConditionPartialEq.TheImpl as derived_condition
 use Rattle.sarif_entries.specs.declared.condition.Condition.{Condition}
-use Rattle.sarif_entries.specs.declared.condition.Condition.TheVariants.{Tool, RuleId, Uri, UriPrefix, Guid, Fingerprints, PartialFingerprints, Message, MessageId, MessageArguments}
+use Rattle.sarif_entries.specs.declared.condition.Condition.TheVariants.{Tool, RuleId, Uri, UriPrefix, Guid, Fingerprints, PartialFingerprints, Message, MessageId, MessageArguments, Snippet}
 use Rattle.sarif_entries.specs.declared.condition.ConditionKind.{ConditionKind}
 use Rattle.sarif_entries.specs.declared.condition.ConditionKind.TheVariants as kinds
 use Rattle.sarif_entries.specs.declared.version.Version.{Version}
-use Rattle.sarif_entries.specs.declared.version.Version.TheVariants.{First, Second, Fourth}
+use Rattle.sarif_entries.specs.declared.version.Version.TheVariants.{First, Second, Fourth, Fifth}
 
 -- ---- the kinds of conditions
 
@@ -27,6 +28,7 @@ all_kinds =
     ∷ kinds.Message
     ∷ kinds.MessageId
     ∷ kinds.MessageArguments
+    ∷ kinds.Snippet
     ∷ []
 
 -- the name of the member of an entry that has the condition
@@ -41,6 +43,7 @@ name_of kinds.PartialFingerprints = codes "partialFingerprints"
 name_of kinds.Message = codes "message"
 name_of kinds.MessageId = codes "messageId"
 name_of kinds.MessageArguments = codes "messageArguments"
+name_of kinds.Snippet = codes "snippet"
 
 -- the first version of the file whose entries may have it
 abbrev pub since : ConditionKind → Version
@@ -54,6 +57,7 @@ since kinds.PartialFingerprints = First
 since kinds.Message = Fourth
 since kinds.MessageId = Fourth
 since kinds.MessageArguments = Fourth
+since kinds.Snippet = Fifth
 
 -- the type of the value: a string, a GUID, an object of strings or an array of strings. The last two make no
 -- condition if they are empty
@@ -74,6 +78,7 @@ form_of kinds.PartialFingerprints = some_pairs PartialFingerprints
 form_of kinds.Message = a_text Message
 form_of kinds.MessageId = a_text MessageId
 form_of kinds.MessageArguments = some_texts MessageArguments
+form_of kinds.Snippet = a_text Snippet
 
 abbrev pub if_any : {A : Type 0} → List A → Option (List A)
 if_any [] = None
@@ -96,6 +101,7 @@ kind_of (PartialFingerprints pairs) = kinds.PartialFingerprints
 kind_of (Message text) = kinds.Message
 kind_of (MessageId id) = kinds.MessageId
 kind_of (MessageArguments texts) = kinds.MessageArguments
+kind_of (Snippet text) = kinds.Snippet
 
 abbrev pub is_kind : ConditionKind → ConditionKind → Bool
 is_kind = derived.ghosts.eq
@@ -113,6 +119,7 @@ text_of (Uri text) = Some text
 text_of (UriPrefix prefix) = Some prefix
 text_of (Message text) = Some text
 text_of (MessageId id) = Some id
+text_of (Snippet text) = Some text
 text_of _ = None
 
 -- the string that a condition of that kind names, if there is one
@@ -144,6 +151,11 @@ is_guid guid (Some found) = nat_eq guid found
 abbrev pub is_pair : List ℕ × List ℕ → List ℕ × List ℕ → Bool
 is_pair a b = bytes_eq a.0 b.0 && bytes_eq a.1 b.1
 
+-- there is a snippet, and it is this one, except for white space
+abbrev pub is_snippet : List ℕ → Option (List ℕ) → Bool
+is_snippet text None = false
+is_snippet text (Some found) = bytes_eq (packed text) (packed found)
+
 -- each required pair is among the pairs of the result
 abbrev pub are_among : List (List ℕ × List ℕ) → List (List ℕ × List ℕ) → Bool
 are_among wanted found = list_all (λ pair. list_any (λ p. is_pair p pair) found) wanted
@@ -160,6 +172,7 @@ holds (PartialFingerprints pairs) r = are_among pairs r.partial
 holds (Message text) r = is_text text r.message.text
 holds (MessageId id) r = is_text id r.message.id
 holds (MessageArguments texts) r = pointwise bytes_eq texts r.message.args
+holds (Snippet text) r = is_snippet text r.snippet
 
 -- ---- the same as a proposition
 
@@ -177,6 +190,8 @@ Holds (PartialFingerprints pairs) r =
 Holds (Message text) r = r.message.text ≡ Some text
 Holds (MessageId id) r = r.message.id ≡ Some id
 Holds (MessageArguments texts) r = r.message.args ≡ texts
+Holds (Snippet text) r =
+    (found : List ℕ) × (r.snippet ≡ Some found) × (packed found ≡ packed text)
 
 -- ---- the condition of a kind that a result itself has, if it has one
 
@@ -191,3 +206,4 @@ own_of kinds.PartialFingerprints r = unless_empty PartialFingerprints r.partial
 own_of kinds.Message r = option_map Message r.message.text
 own_of kinds.MessageId r = option_map MessageId r.message.id
 own_of kinds.MessageArguments r = unless_empty MessageArguments r.message.args
+own_of kinds.Snippet r = option_map Snippet r.snippet

@@ -15,7 +15,7 @@ use Rattle.sarif_entries.specs.declared.entry.Entry.{Entry}
 use Rattle.sarif_entries.specs.declared.fault.FileFault.{FileFault}
 use Rattle.sarif_model.specs.declared.fault.Fault.TheVariants.{BadEntry, EmptyMatch, NeedsToday}
 use Rattle.sarif_entries.specs.declared.version.Version.{Version}
-use Rattle.sarif_entries.specs.declared.version.Version.TheVariants.{First, Second, Fourth}
+use Rattle.sarif_entries.specs.declared.version.Version.TheVariants.{First, Second, Fourth, Fifth}
 use Rattle.sarif_entries.specs.FileFault.{in_entry}
 use Rattle.sarif_entries.specs.Condition.{Form, a_text, a_guid, some_pairs, some_texts, all_kinds, name_of, since, form_of, unless_empty}
 use Rattle.sarif_entries.specs.Matching.{is_empty}
@@ -26,9 +26,15 @@ includes version First = true
 includes First Second = false
 includes Second Second = true
 includes Fourth Second = true
+includes Fifth Second = true
 includes First Fourth = false
 includes Second Fourth = false
 includes Fourth Fourth = true
+includes Fifth Fourth = true
+includes First Fifth = false
+includes Second Fifth = false
+includes Fourth Fifth = false
+includes Fifth Fifth = true
 
 -- an entry of that version may have a condition in a member of that name
 abbrev pub has_condition : Version → List ℕ → Bool

@@ -11,6 +11,7 @@ ghost use Rattle.sarif_entries.specs.Matching.{hold as all_hold};
 use crate::fault::FileFault;
 use crate::read_condition::{guid_at, own_text_at, pairs_at, texts_at};
 use crate::version::Version;
+use sarif_match::are_same_packed;
 use sarif_model::{Pairs, Record, Refusal, Sequence, Text};
 use serde_json::Value;
 use std::alloc::{AllocError, Global};
@@ -38,6 +39,8 @@ pub enum Condition {
     MessageId(Text),
     /// `messageArguments`: the arguments of the result's message, all of them in order.
     MessageArguments(Sequence<Text>),
+    /// `snippet`: that of the result, except for white space.
+    Snippet(Text),
 }
 
 /// A kind of condition.
@@ -63,6 +66,8 @@ pub enum ConditionKind {
     MessageId,
     /// `Condition::MessageArguments`.
     MessageArguments,
+    /// `Condition::Snippet`.
+    Snippet,
 }
 
 impl ConditionKind {
@@ -78,6 +83,7 @@ impl ConditionKind {
         ConditionKind::Message,
         ConditionKind::MessageId,
         ConditionKind::MessageArguments,
+        ConditionKind::Snippet,
     ];
 
     /// The name of the member of an entry that has the condition.
@@ -95,6 +101,7 @@ impl ConditionKind {
             ConditionKind::Message => "message",
             ConditionKind::MessageId => "messageId",
             ConditionKind::MessageArguments => "messageArguments",
+            ConditionKind::Snippet => "snippet",
         }
     }
 
@@ -112,6 +119,7 @@ impl ConditionKind {
             ConditionKind::UriPrefix => Version::Second,
             ConditionKind::Message | ConditionKind::MessageId | ConditionKind::MessageArguments =>
                 Version::Fourth,
+            ConditionKind::Snippet => Version::Fifth,
         }
     }
 }
@@ -146,6 +154,16 @@ fn is_guid(guid: u128, found: Option<u128>) -> bool
     match found {
         None => false,
         Some(found) => guid == found,
+    }
+}
+
+/// Returns whether there is a snippet and it is this one, except for white space.
+fn is_snippet(snippet: &Text, found: &Option<Text>) -> bool
+    ensures { result ≡ said.is_snippet snippet.now found.now }
+{
+    match found {
+        None => false,
+        Some(found) => are_same_packed(snippet.as_str(), found.as_str()),
     }
 }
 
@@ -195,6 +213,7 @@ impl Condition {
             Condition::Message(_) => ConditionKind::Message,
             Condition::MessageId(_) => ConditionKind::MessageId,
             Condition::MessageArguments(_) => ConditionKind::MessageArguments,
+            Condition::Snippet(_) => ConditionKind::Snippet,
         }
     }
 
@@ -208,7 +227,8 @@ impl Condition {
             | Condition::Uri(text)
             | Condition::UriPrefix(text)
             | Condition::Message(text)
-            | Condition::MessageId(text) => Some(text),
+            | Condition::MessageId(text)
+            | Condition::Snippet(text) => Some(text),
             _ => None,
         }
     }
@@ -230,6 +250,7 @@ impl Condition {
             Condition::Message(text) => is_text(text, &record.message.text),
             Condition::MessageId(id) => is_text(id, &record.message.id),
             Condition::MessageArguments(texts) => texts == &record.message.args,
+            Condition::Snippet(snippet) => is_snippet(snippet, &record.snippet),
         }
     }
 }
@@ -304,6 +325,7 @@ pub(crate) fn condition_at(
         ConditionKind::MessageArguments => if_any(texts_at(alloc, entry, name, wrong)?).map(
             Condition::MessageArguments,
         ),
+        ConditionKind::Snippet => own_text_at(alloc, entry, name, wrong)?.map(Condition::Snippet),
     })
 }
 
@@ -369,5 +391,6 @@ pub fn own_of(
             alloc,
             message.args.as_slice(),
         )?).map(Condition::MessageArguments),
+        ConditionKind::Snippet => copy_of_text(&record.snippet)?.map(Condition::Snippet),
     })
 }

@@ -8,7 +8,8 @@ use sarif_model::{Record, Sequence, Status, Text};
 /// An entry of the suppression file: which results it suppresses, until when, and the suppression that it adds.
 #[derive(Debug, Drop)]
 pub struct Entry {
-    /// What the entry requires of a result: each condition that it names, in the order of `ConditionKind::ALL`.
+    /// What the entry requires of a result: each condition that it names, in the order of
+    /// `ConditionKind::ALL`.
     pub conditions: Sequence<Condition>,
     /// `expires`: the last date on which it suppresses, as the number YYYYMMDD.
     pub expires: Option<u32>,

@@ -6,6 +6,7 @@ ghost use Rattle.sarif_entries.specs.Internal.Filing as said;
 use crate::condition::{Condition, ConditionKind, of_kind, text_in};
 use crate::entry::Entry;
 use crate::message_keys::key_of;
+use sarif_match::packed;
 use sarif_model::{Sequence, Text};
 use std::alloc::{AllocError, Global};
 
@@ -71,14 +72,42 @@ fn guid_in(conditions: &[Condition]) -> Option<u128>
     }
 }
 
-/// Returns whether neither a GUID nor full fingerprints are named.
+/// Returns whether neither a GUID nor a snippet is named.
+fn has_no_guid_or_snippet(conditions: &[Condition]) -> bool
+    ensures { result ≡ said.has_no_guid_or_snippet conditions.now }
+{
+    guid_in(conditions).is_none() && text_in(conditions, ConditionKind::Snippet).is_none()
+}
+
+/// Returns whether none of a GUID, a snippet and full fingerprints are named.
 fn has_no_guid_or_full(conditions: &[Condition]) -> bool
     ensures { result ≡ said.has_no_guid_or_full conditions.now }
 {
-    guid_in(conditions).is_none() && pairs_in(conditions, ConditionKind::Fingerprints).is_empty()
+    has_no_guid_or_snippet(conditions)
+        && pairs_in(conditions, ConditionKind::Fingerprints).is_empty()
 }
 
-/// Returns whether neither a GUID nor fingerprints are named.
+/// Returns the key of the snippet that is named, with the URI that is named, unless a GUID is.
+fn snippet_key(
+    alloc: Global,
+    conditions: &[Condition],
+) -> Result<Option<Sequence<Text>>, AllocError>
+    ensures { IfOk result (λ key. key ≡ said.snippet_key conditions.now) }
+{
+    if guid_in(conditions).is_some() {
+        return Ok(None);
+    }
+    match text_in(conditions, ConditionKind::Snippet) {
+        None => Ok(None),
+        Some(snippet) => {
+            let snippet = packed(alloc, snippet.as_str())?;
+            let uri = text_in(conditions, ConditionKind::Uri);
+            Ok(Some(key_of(alloc, Some(&snippet), uri, &[])?))
+        }
+    }
+}
+
+/// Returns whether none of a GUID, a snippet and fingerprints are named.
 fn is_unmarked(conditions: &[Condition]) -> bool
     ensures { result ≡ said.is_unmarked conditions.now }
 {
@@ -136,7 +165,7 @@ impl Entry {
     {
         let conditions = self.conditions.as_slice();
         match which {
-            PairCondition::Full if guid_in(conditions).is_none() => {
+            PairCondition::Full if has_no_guid_or_snippet(conditions) => {
                 first_of(pairs_in(conditions, ConditionKind::Fingerprints))
             }
             PairCondition::Partial if has_no_guid_or_full(conditions) => {
@@ -168,11 +197,15 @@ impl Entry {
         }
     }
 
-    /// What is named of the message, with the URI that is named, where the entry is filed under it.
+    /// The snippet that is named, otherwise what is named of the message, with the URI that is named, where the entry is
+    /// filed under it.
     pub fn message_key(&self, alloc: Global) -> Result<Option<Sequence<Text>>, AllocError>
         ensures { IfOk result (λ key. key ≡ said.message_key self.now.conditions) }
     {
         let conditions = self.conditions.as_slice();
+        if let Some(key) = snippet_key(alloc, conditions)? {
+            return Ok(Some(key));
+        }
         if !is_unmarked(conditions) || has_no_message(conditions) {
             return Ok(None);
         }

@@ -13,6 +13,7 @@ mod object;
 mod read_condition;
 mod read_entry;
 mod read_file;
+mod snippets;
 mod version;
 
 pub use condition::{Condition, ConditionKind, own_of, text_in};
@@ -23,4 +24,5 @@ pub use laws::{just_its_object_is_an_entrys, object_holds_no_fraction};
 pub use object::{is_object_of, object_of};
 pub use read_entry::is_day;
 pub use read_file::entries_of_file;
+pub use snippets::is_fifth;
 pub use version::Version;

@@ -1,9 +1,10 @@
-//! The keys of messages: one under which an entry is filed by what it names of a message, and those by which the
-//! entries for a result's message are found.
-ghost use Rattle.std.specs.Prelude.{◌≡◌, ◌++◌, IfOk, OnOk};
-ghost use Rattle.std.specs.Option.{option_copied};
+//! The keys of messages and snippets: one under which an entry is filed by what it names of a message or by the snippet
+//! that it names, and those by which the entries for a result's message and snippet are found.
+ghost use Rattle.std.specs.Prelude.{◌≡◌, ◌++◌, [], IfOk, OnOk};
+ghost use Rattle.std.specs.Option.{option_copied, option_map_or};
 ghost use Rattle.sarif_entries.specs.Internal.Filing as said;
 
+use sarif_match::packed;
 use sarif_model::{Message, Record, Sequence, Text};
 use std::alloc::{AllocError, Global};
 
@@ -84,7 +85,28 @@ fn add_keys_at(
     Ok(())
 }
 
-/// A result's keys for its message, without its URI and, if it has one, with it.
+/// Adds a result's keys for its snippet, without its URI and, if it has one, with it; none without a snippet.
+fn add_keys_with(
+    alloc: Global,
+    keys: &mut Vec<Sequence<Text>>,
+    uri: &Option<Text>,
+    snippet: &Option<Text>,
+) -> Result<(), AllocError>
+    ensures { OnOk result (keys.new.items ≡ keys.old.items
+        ++ option_map_or (λ text. said.keys_with text uri.now) snippet.now []) }
+{
+    let Some(snippet) = snippet else {
+        return Ok(());
+    };
+    let snippet = packed(alloc, snippet.as_str())?;
+    keys.push(key_of(alloc, Some(&snippet), None, &[])?)?;
+    if uri.is_some() {
+        keys.push(key_of(alloc, Some(&snippet), uri.as_ref(), &[])?)?;
+    }
+    Ok(())
+}
+
+/// A result's keys for its message and for its snippet, without its URI and, if it has one, with it.
 pub fn message_keys(alloc: Global, record: &Record) -> Result<Vec<Sequence<Text>>, AllocError>
     ensures { IfOk result (λ keys. keys.items ≡ said.message_keys «record».now) }
 {
@@ -93,5 +115,6 @@ pub fn message_keys(alloc: Global, record: &Record) -> Result<Vec<Sequence<Text>
     if record.place.uri.is_some() {
         add_keys_at(alloc, &mut keys, &record.place.uri, &record.message)?;
     }
+    add_keys_with(alloc, &mut keys, &record.place.uri, &record.snippet)?;
     Ok(keys)
 }

@@ -28,7 +28,7 @@ fn check_list(file: &Value) -> Result<&[Value], FileFault>
     }
 }
 
-/// Passes a file whose `version` is 1, 2 or 4, and gives it.
+/// Passes a file whose `version` is 1, 2, 4 or 5, and gives it.
 fn check_version(file: &Value) -> Result<Version, FileFault>
     ensures { result ≡ said.check_version (view file.now) }
 {
@@ -36,6 +36,7 @@ fn check_version(file: &Value) -> Result<Version, FileFault>
         Some(1) => Ok(Version::First),
         Some(2) => Ok(Version::Second),
         Some(4) => Ok(Version::Fourth),
+        Some(5) => Ok(Version::Fifth),
         _ => Err(FileFault::from(Fault::WrongVersion)),
     }
 }

@@ -1,6 +1,7 @@
 //! The versions of the suppression file.
 ghost use Rattle.std.specs.Prelude.{◌≡◌};
 ghost use Rattle.sarif_entries.specs.Entries as said;
+ghost use Rattle.sarif_entries.specs.File.{number_of};
 
 use crate::condition::ConditionKind;
 
@@ -13,9 +14,23 @@ pub enum Version {
     Second,
     /// `"version": 4`, which has `message`, `messageId` and `messageArguments` too.
     Fourth,
+    /// `"version": 5`, which has `snippet` too.
+    Fifth,
 }
 
 impl Version {
+    /// Its number.
+    pub fn number(self) -> u32
+        ensures { result ≡ number_of self }
+    {
+        match self {
+            Version::First => 1,
+            Version::Second => 2,
+            Version::Fourth => 4,
+            Version::Fifth => 5,
+        }
+    }
+
     /// Returns whether this version has what `earlier` introduced.
     fn includes(self, earlier: Version) -> bool
         ensures { result ≡ said.includes self earlier }
@@ -24,8 +39,10 @@ impl Version {
             (_, Version::First) => true,
             (Version::First, Version::Second) => false,
             (_, Version::Second) => true,
-            (Version::Fourth, Version::Fourth) => true,
+            (Version::Fourth | Version::Fifth, Version::Fourth) => true,
             (_, Version::Fourth) => false,
+            (Version::Fifth, Version::Fifth) => true,
+            (_, Version::Fifth) => false,
         }
     }
 

@@ -1,8 +1,9 @@
 -- Under which condition an entry is filed: the most specific one. So a result is compared only with entries that may
 -- match it.
-use Rattle.std.specs.Prelude.{ℕ, Bool, false, not, ◌&&◌, List, [], ◌∷◌, ◌++◌, Option, Some, None, option_and_then, is_none, is_some, nat_eq, bytes_eq, slice_get, if◌then◌else◌}
+use Rattle.std.specs.Prelude.{ℕ, Bool, false, not, ◌&&◌, List, [], ◌∷◌, ◌++◌, Option, Some, None, option_and_then, option_map, is_none, is_some, nat_eq, bytes_eq, slice_get, if◌then◌else◌}
 use Rattle.std.specs.Cmp.Lexicographic.{pointwise}
 use Rattle.std.specs.Option.{option_map_or}
+use Rattle.sarif_match.specs.Seen.{packed}
 use Rattle.sarif_model.specs.declared.message.Message.{Message}
 use Rattle.sarif_model.specs.declared.record.Record.{Record}
 use Rattle.sarif_entries.specs.declared.condition.Condition.{Condition}
@@ -46,18 +47,23 @@ args_in cs = option_map_or texts_of (of_kind kinds.MessageArguments cs) []
 
 -- ---- the condition under which an entry is filed
 
--- the entry names neither a GUID nor full fingerprints
-abbrev pub has_no_guid_or_full : List Condition → Bool
-has_no_guid_or_full cs = is_none (guid_in cs) && is_empty (pairs_in kinds.Fingerprints cs)
+-- the entry names neither a GUID nor a snippet
+abbrev pub has_no_guid_or_snippet : List Condition → Bool
+has_no_guid_or_snippet cs = is_none (guid_in cs) && is_none (text_in kinds.Snippet cs)
 
--- the entry names neither a GUID nor fingerprints
+-- the entry names none of a GUID, a snippet and full fingerprints
+abbrev pub has_no_guid_or_full : List Condition → Bool
+has_no_guid_or_full cs =
+    has_no_guid_or_snippet cs && is_empty (pairs_in kinds.Fingerprints cs)
+
+-- the entry names none of a GUID, a snippet and fingerprints
 abbrev pub is_unmarked : List Condition → Bool
 is_unmarked cs = has_no_guid_or_full cs && is_empty (pairs_in kinds.PartialFingerprints cs)
 
 -- the first named fingerprint, if it is the most specific condition
 abbrev pub pair_key : PairCondition → List Condition → Option (List ℕ × List ℕ)
 pair_key Full cs =
-    if is_none (guid_in cs) then slice_get (pairs_in kinds.Fingerprints cs) 0 else None
+    if has_no_guid_or_snippet cs then slice_get (pairs_in kinds.Fingerprints cs) 0 else None
 pair_key Partial cs =
     if has_no_guid_or_full cs then slice_get (pairs_in kinds.PartialFingerprints cs) 0 else None
 
@@ -83,11 +89,23 @@ head_of cs =
     if is_some (text_in kinds.Message cs) then text_in kinds.Message cs
     else text_in kinds.MessageId cs
 
--- what is named of the message, with the named URI, if it is the most specific condition
+-- the key of a snippet and of a URI, if there is one
+abbrev pub key_with : List ℕ → Option (List ℕ) → List (List ℕ)
+key_with snippet uri = packed snippet ∷ listed uri
+
+-- the named snippet, with the named URI, if it is the most specific condition
+abbrev pub snippet_key : List Condition → Option (List (List ℕ))
+snippet_key cs =
+    if is_none (guid_in cs)
+    then option_map (λ text. key_with text (text_in kinds.Uri cs)) (text_in kinds.Snippet cs)
+    else None
+
+-- the key of the named snippet, or of the named parts of the message, with the named URI, if it is the most specific condition
 abbrev pub message_key : List Condition → Option (List (List ℕ))
 message_key cs =
-    if is_unmarked cs && not (has_no_message cs)
-    then Some (key_of (text_in kinds.Uri cs) (head_of cs) (args_in cs)) else None
+    if is_some (snippet_key cs) then snippet_key cs
+    else (if is_unmarked cs && not (has_no_message cs)
+    then Some (key_of (text_in kinds.Uri cs) (head_of cs) (args_in cs)) else None)
 
 -- a result's keys for its text or its id: without its arguments and, if it has some, with them
 abbrev pub keys_under : Option (List ℕ) → Option (List ℕ) → List (List ℕ) → List (List (List ℕ))
@@ -101,10 +119,17 @@ keys_at uri m =
     ++ (if is_some m.id then keys_under uri m.id m.args else []))
     ++ (if is_empty m.args then [] else key_of uri None m.args ∷ [])
 
--- a result's keys for its message: without its URI and, if it has one, with it
+-- a result's keys for its snippet: without its URI and, if it has one, with it
+abbrev pub keys_with : List ℕ → Option (List ℕ) → List (List (List ℕ))
+keys_with snippet uri =
+    key_with snippet None ∷ (if is_some uri then key_with snippet uri ∷ [] else [])
+
+-- a result's keys for its message: without its URI and, if it has one, with it; and those for its snippet, if it has
+-- one
 abbrev pub message_keys : Record → List (List (List ℕ))
 message_keys r =
-    keys_at None r.message ++ (if is_some r.place.uri then keys_at r.place.uri r.message else [])
+    (keys_at None r.message ++ (if is_some r.place.uri then keys_at r.place.uri r.message else []))
+    ++ option_map_or (λ snippet. keys_with snippet r.place.uri) r.snippet []
 
 -- the entry names neither a message nor a URI
 abbrev pub has_no_message_or_uri : List Condition → Bool
