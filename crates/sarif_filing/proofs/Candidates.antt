@@ -17,16 +17,16 @@ use Rattle.sarif_entries.specs.declared.filing.PairCondition.TheVariants.{Full, 
 use Rattle.sarif_entries.specs.declared.filing.TextCondition.TheVariants.{Uri, RuleId, Tool}
 use Rattle.sarif_filing.specs.declared.prefixes.PrefixTable.{PrefixTable}
 use Rattle.sarif_filing.specs.declared.table.Table.{Table}
-use Rattle.sarif_entries.specs.Internal.Filing.{asks_for_guid, asks_for_pair, asks_for_message, asks_for_text, asks_for_none, prefix_key, message_keys, guid_of, pairs_of, texts_of, guid_in, pairs_in, args_in}
+use Rattle.sarif_entries.specs.Internal.Filing.{asks_for_guid, asks_for_pair, asks_for_message, asks_for_text, asks_for_none, key_with, message_key, prefix_key, message_keys, guid_of, pairs_of, texts_of, guid_in, pairs_in, args_in}
 use Rattle.sarif_filing.specs.Internal.Table.{candidates}
-use Rattle.sarif_entries.specs.Condition.{is_text, begins, is_guid, is_pair, are_among, holds, kind_of, is_kind, of_kind, text_of, text_in}
+use Rattle.sarif_entries.specs.Condition.{is_text, begins, is_guid, is_snippet, is_pair, are_among, holds, kind_of, is_kind, of_kind, text_of, text_in}
 use Rattle.sarif_entries.specs.Matching.{hold, is_expired, matches}
 use Rattle.sarif_filing.specs.Numbers.{numbers_from, numbers_at}
 use Rattle.sarif_filing.specs.Internal.Prefixes.{IsPrefixTable, found_for}
 use Rattle.sarif_filing.specs.Internal.Table.{IsTable}
 use Rattle.sarif_filing.proofs.Begun.{found_begun}
 use Rattle.sarif_entries.proofs.Meaning.{pair_means}
-use Rattle.sarif_entries.proofs.MessageKeys.{is_there, are_wanted, in_message_keys}
+use Rattle.sarif_entries.proofs.MessageKeys.{is_there, are_wanted, in_message_keys, in_snippet_keys}
 use Rattle.sarif_filing.proofs.Numbered.{has, has_from}
 
 flat_same : {K : Type 0} (f g : K → List ℕ) (ks : List K) → ((k : K) → f k ≡ g k) → flat_map f ks ≡ flat_map g ks
@@ -128,7 +128,9 @@ its_pair p (q ∷ qs) t =
     turned same = (pair_means p q).1 (sym ((pair_means q p).0 same))
 
 -- what the entry names is true for the result
-record Parts (g : Option ℕ) (f p : List (List ℕ × List ℕ)) (m u ru px t i : Option (List ℕ)) (ws : List (List ℕ)) (r : Record) : Type 0 where
+record Parts (g : Option ℕ) (sn : Option (List ℕ)) (f p : List (List ℕ × List ℕ)) (m u ru px t i : Option (List ℕ)) (ws : List (List ℕ)) (r : Record)
+    : Type 0 where
+  snippet : option_map_or (λ text. is_snippet text r.snippet) sn true ≡ true
   guid : option_map_or (λ guid. is_guid guid r.guid) g true ≡ true
   full : are_among f r.full ≡ true
   partial : are_among p r.partial ≡ true
@@ -159,6 +161,13 @@ module _ (r : Record) where
   guid_holds : (c : Condition) → is_kind (kind_of c) kinds.Guid ≡ true → holds c r ≡ true → guid_test (Some c) ≡ true
   guid_holds (condition.Guid x) is h = h
   guid_holds c is h = absurd (false≢true is)
+
+  abbrev snippet_test : Option Condition → Bool
+  snippet_test = λ o. option_map_or (λ text. is_snippet text r.snippet) (option_and_then text_of o) true
+
+  snippet_holds : (c : Condition) → is_kind (kind_of c) kinds.Snippet ≡ true → holds c r ≡ true → snippet_test (Some c) ≡ true
+  snippet_holds (condition.Snippet x) is h = h
+  snippet_holds c is h = absurd (false≢true is)
 
   abbrev full_test : Option Condition → Bool
   full_test = λ o. are_among (option_map_or pairs_of o []) r.full
@@ -225,10 +234,11 @@ module _ (r : Record) where
   args_holds c is h = absurd (false≢true is)
 
   parts_of : (cs : List Condition) → hold cs r ≡ true
-      → Parts (guid_in cs) (pairs_in kinds.Fingerprints cs) (pairs_in kinds.PartialFingerprints cs) (text_in kinds.Message cs)
+      → Parts (guid_in cs) (text_in kinds.Snippet cs) (pairs_in kinds.Fingerprints cs) (pairs_in kinds.PartialFingerprints cs) (text_in kinds.Message cs)
       (text_in kinds.Uri cs) (text_in kinds.RuleId cs) (text_in kinds.UriPrefix cs) (text_in kinds.Tool cs)
       (text_in kinds.MessageId cs) (args_in cs) r
   parts_of cs all = record {
+    snippet = first_holds kinds.Snippet snippet_test refl snippet_holds cs all;
     guid = first_holds kinds.Guid guid_test refl guid_holds cs all;
     full = first_holds kinds.Fingerprints full_test refl full_holds cs all;
     partial = first_holds kinds.PartialFingerprints partial_test refl partial_holds cs all;
@@ -271,8 +281,10 @@ module _ (g f p m u ru t o : Bool) where
   in_none is = behind_message (or_right u _ (or_right ru _ (or_right t _ is)))
 
 -- the entry names exactly these
-record Names (cs : List Condition) (g : Option ℕ) (f p : List (List ℕ × List ℕ)) (m u ru px t i : Option (List ℕ)) (ws : List (List ℕ)) : Type 0 where
+record Names (cs : List Condition) (g : Option ℕ) (sn : Option (List ℕ)) (f p : List (List ℕ × List ℕ)) (m u ru px t i : Option (List ℕ))
+    (ws : List (List ℕ)) : Type 0 where
   guid : guid_in cs ≡ g
+  snippet : text_in kinds.Snippet cs ≡ sn
   full : pairs_in kinds.Fingerprints cs ≡ f
   partial : pairs_in kinds.PartialFingerprints cs ≡ p
   message : text_in kinds.Message cs ≡ m
@@ -282,6 +294,11 @@ record Names (cs : List Condition) (g : Option ℕ) (f p : List (List ℕ × Lis
   tool : text_in kinds.Tool cs ≡ t
   id : text_in kinds.MessageId cs ≡ i
   args : args_in cs ≡ ws
+
+-- an entry with a snippet and without a GUID is filed under the snippet
+by_snippet : (cs : List Condition) (snippet : List ℕ) → guid_in cs ≡ None → text_in kinds.Snippet cs ≡ Some snippet
+    → message_key cs ≡ Some (key_with snippet (text_in kinds.Uri cs))
+by_snippet cs snippet none there = rw (none, there) refl
 
 module _ (e : Entry) (r : Record) (begun : Bool) where
   abbrev by_guid : Bool
@@ -306,54 +323,60 @@ module _ (e : Entry) (r : Record) (begun : Bool) where
   by_tool = asks_for_text Tool r.tool e
 
   -- an entry whose prefix is found if the URI begins with it is filed under a value of the result
-  is_filed : (g : Option ℕ) (f p : List (List ℕ × List ℕ)) (m u ru px t i : Option (List ℕ)) (ws : List (List ℕ))
-      → Names e.conditions g f p m u ru px t i ws → Parts g f p m u ru px t i ws r
+  is_filed : (g : Option ℕ) (sn : Option (List ℕ)) (f p : List (List ℕ × List ℕ)) (m u ru px t i : Option (List ℕ)) (ws : List (List ℕ))
+      → Names e.conditions g sn f p m u ru px t i ws → Parts g sn f p m u ru px t i ws r
       → ((prefix : List ℕ) → prefix_key e.conditions ≡ Some prefix → begins prefix r.place.uri ≡ true → begun ≡ true)
       → (is_asked e r || begun) ≡ true
-  is_filed (Some g) f p m u ru px t i ws n parts found =
+  is_filed (Some g) sn f p m u ru px t i ws n parts found =
       or_left (is_asked e r) begun (or_left by_guid _ (rw (n.guid) (its_guid g r.guid parts.guid)))
-  is_filed None (q ∷ f) p m u ru px t i ws n parts found =
+  is_filed None (Some sn) f p m u ru px t i ws n parts found =
+      or_left (is_asked e r) begun
+      (in_message by_guid by_full by_partial by_message by_uri by_rule by_tool (asks_for_none e)
+      (ap (λ o. list_any (λ key. option_map_or (λ own. pointwise bytes_eq own key) o false) (message_keys r))
+      (by_snippet e.conditions sn n.guid n.snippet ∙ ap (λ uri. Some (key_with sn uri)) n.uri)
+      ∙ in_snippet_keys r sn u parts.snippet parts.uri))
+  is_filed None None (q ∷ f) p m u ru px t i ws n parts found =
       or_left (is_asked e r) begun
       (in_full by_guid by_full by_partial by_message by_uri by_rule by_tool (asks_for_none e)
-      (rw (n.guid, n.full) (its_pair q r.full (and_parts (list_any (λ o. is_pair o q) r.full) (are_among f r.full) parts.full).0)))
-  is_filed None [] (q ∷ p) m u ru px t i ws n parts found =
+      (rw (n.guid, n.snippet, n.full) (its_pair q r.full (and_parts (list_any (λ o. is_pair o q) r.full) (are_among f r.full) parts.full).0)))
+  is_filed None None [] (q ∷ p) m u ru px t i ws n parts found =
       or_left (is_asked e r) begun
       (in_partial by_guid by_full by_partial by_message by_uri by_rule by_tool (asks_for_none e)
-      (rw (n.guid, n.full, n.partial)
+      (rw (n.guid, n.snippet, n.full, n.partial)
       (its_pair q r.partial (and_parts (list_any (λ o. is_pair o q) r.partial) (are_among p r.partial) parts.partial).0)))
-  is_filed None [] [] (Some m) u ru px t i ws n parts found =
+  is_filed None None [] [] (Some m) u ru px t i ws n parts found =
       or_left (is_asked e r) begun
       (in_message by_guid by_full by_partial by_message by_uri by_rule by_tool (asks_for_none e)
-      (rw (n.guid, n.full, n.partial, n.message, n.uri, n.args)
+      (rw (n.guid, n.snippet, n.full, n.partial, n.message, n.uri, n.args)
       (in_message_keys r u (Some m) i ws parts.uri parts.message parts.id parts.args refl)))
-  is_filed None [] [] None u ru px t (Some i) ws n parts found =
+  is_filed None None [] [] None u ru px t (Some i) ws n parts found =
       or_left (is_asked e r) begun
       (in_message by_guid by_full by_partial by_message by_uri by_rule by_tool (asks_for_none e)
-      (rw (n.guid, n.full, n.partial, n.message, n.uri, n.id, n.args)
+      (rw (n.guid, n.snippet, n.full, n.partial, n.message, n.uri, n.id, n.args)
       (in_message_keys r u None (Some i) ws parts.uri parts.message parts.id parts.args refl)))
-  is_filed None [] [] None u ru px t None (w ∷ ws) n parts found =
+  is_filed None None [] [] None u ru px t None (w ∷ ws) n parts found =
       or_left (is_asked e r) begun
       (in_message by_guid by_full by_partial by_message by_uri by_rule by_tool (asks_for_none e)
-      (rw (n.guid, n.full, n.partial, n.message, n.uri, n.id, n.args)
+      (rw (n.guid, n.snippet, n.full, n.partial, n.message, n.uri, n.id, n.args)
       (in_message_keys r u None None (w ∷ ws) parts.uri parts.message parts.id parts.args refl)))
-  is_filed None [] [] None (Some u) ru px t None [] n parts found =
+  is_filed None None [] [] None (Some u) ru px t None [] n parts found =
       or_left (is_asked e r) begun
       (in_uri by_guid by_full by_partial by_message by_uri by_rule by_tool (asks_for_none e)
-      (rw (n.guid, n.full, n.partial, n.message, n.uri, n.id, n.args) (its_text u r.place.uri parts.uri)))
-  is_filed None [] [] None None (Some ru) px t None [] n parts found =
+      (rw (n.guid, n.snippet, n.full, n.partial, n.message, n.uri, n.id, n.args) (its_text u r.place.uri parts.uri)))
+  is_filed None None [] [] None None (Some ru) px t None [] n parts found =
       or_left (is_asked e r) begun
       (in_rule by_guid by_full by_partial by_message by_uri by_rule by_tool (asks_for_none e)
-      (rw (n.guid, n.full, n.partial, n.message, n.uri, n.id, n.args, n.rule) parts.rule))
-  is_filed None [] [] None None None (Some px) t None [] n parts found =
-      or_right (is_asked e r) begun (found px (rw (n.guid, n.full, n.partial, n.message, n.uri, n.id, n.args, n.rule, n.prefix) refl) parts.prefix)
-  is_filed None [] [] None None None None (Some t) None [] n parts found =
+      (rw (n.guid, n.snippet, n.full, n.partial, n.message, n.uri, n.id, n.args, n.rule) parts.rule))
+  is_filed None None [] [] None None None (Some px) t None [] n parts found =
+      or_right (is_asked e r) begun (found px (rw (n.guid, n.snippet, n.full, n.partial, n.message, n.uri, n.id, n.args, n.rule, n.prefix) refl) parts.prefix)
+  is_filed None None [] [] None None None None (Some t) None [] n parts found =
       or_left (is_asked e r) begun
       (in_tool by_guid by_full by_partial by_message by_uri by_rule by_tool (asks_for_none e)
-      (rw (n.guid, n.full, n.partial, n.message, n.uri, n.id, n.args, n.rule, n.prefix, n.tool) parts.tool))
-  is_filed None [] [] None None None None None None [] n parts found =
+      (rw (n.guid, n.snippet, n.full, n.partial, n.message, n.uri, n.id, n.args, n.rule, n.prefix, n.tool) parts.tool))
+  is_filed None None [] [] None None None None None None [] n parts found =
       or_left (is_asked e r) begun
       (in_none by_guid by_full by_partial by_message by_uri by_rule by_tool (asks_for_none e)
-      (rw (n.guid, n.full, n.partial, n.message, n.uri, n.id, n.args, n.rule, n.prefix, n.tool) refl))
+      (rw (n.guid, n.snippet, n.full, n.partial, n.message, n.uri, n.id, n.args, n.rule, n.prefix, n.tool) refl))
 
 -- all entries that match a result are among the candidates and those whose prefix is found
 pub among : {S H : Type 0} (today : Option ℕ) (r : Record) (es : List Entry) (table : PrefixTable S H) → IsPrefixTable es table
@@ -365,11 +388,12 @@ among today r es table is n e at match =
     let begun : (prefix : List ℕ) → prefix_key cs ≡ Some prefix → begins prefix r.place.uri ≡ true
     → has n beginning ≡ true = λ prefix key begins. found_begun es table n e prefix r.place.uri is at key begins in
     let all : hold cs r ≡ true = (and_parts (not (is_expired today e)) (hold cs r) match).1 in
-    let names : Names cs (guid_in cs) (pairs_in kinds.Fingerprints cs) (pairs_in kinds.PartialFingerprints cs) (text_in kinds.Message cs)
+    let names : Names cs (guid_in cs) (text_in kinds.Snippet cs) (pairs_in kinds.Fingerprints cs) (pairs_in kinds.PartialFingerprints cs) (text_in kinds.Message cs)
     (text_in kinds.Uri cs) (text_in kinds.RuleId cs) (text_in kinds.UriPrefix cs) (text_in kinds.Tool cs) (text_in kinds.MessageId cs)
     (args_in cs) =
     record {
       guid = refl;
+      snippet = refl;
       full = refl;
       partial = refl;
       message = refl;
@@ -383,6 +407,6 @@ among today r es table is n e at match =
     } in
     list_any-append (λ m. nat_eq m n) (candidates es r) beginning
     ∙ ap (λ b. b || has n beginning) (has_candidates es r n e at)
-    ∙ is_filed e r (has n beginning) (guid_in cs) (pairs_in kinds.Fingerprints cs) (pairs_in kinds.PartialFingerprints cs)
+    ∙ is_filed e r (has n beginning) (guid_in cs) (text_in kinds.Snippet cs) (pairs_in kinds.Fingerprints cs) (pairs_in kinds.PartialFingerprints cs)
     (text_in kinds.Message cs) (text_in kinds.Uri cs) (text_in kinds.RuleId cs) (text_in kinds.UriPrefix cs) (text_in kinds.Tool cs)
     (text_in kinds.MessageId cs) (args_in cs) names (parts_of r cs all) begun

@@ -1,7 +1,7 @@
 //! The numbers of the entries by their conditions, so that a result is compared only with entries that may match
-//! it. Each entry is filed under its most specific condition: its GUID, otherwise its first fingerprint, otherwise
-//! its first partial fingerprint, otherwise what it names of a message, together with its URI if it names one,
-//! otherwise its URI, otherwise its rule id, otherwise its URI prefix, otherwise its tool. Entries under a prefix are
+//! it. Each entry is filed under its most specific condition: its GUID, otherwise its snippet, together with its URI if
+//! it names one, otherwise its first fingerprint, otherwise its first partial fingerprint, otherwise what it names of a
+//! message, together with its URI if it names one, otherwise its URI, otherwise its rule id, otherwise its URI prefix, otherwise its tool. Entries under a prefix are
 //! in a separate table.
 ghost use Rattle.std.specs.Prelude.{◌≡◌, ◌≤◌, ◌++◌, [], List, ℕ, length, nat_eq, bytes_eq, IfOk, OnOk};
 ghost use Rattle.std.specs.Cmp.Lexicographic.{pointwise};
@@ -40,7 +40,7 @@ impl<S: BuildHasher + Copy> PairTables<S> {
     }
 }
 
-/// The numbers of the entries, rising, by the text that each is filed under, or by the key of a message.
+/// The numbers of the entries, rising, by the text that each is filed under, or by the key of a message or a snippet.
 #[derive(Drop)]
 struct TextTables<S: BuildHasher + Copy> {
     messages: IndexMap<Sequence<Text>, Vec<u32>, S>,
@@ -145,8 +145,8 @@ fn add_with_keys<S: BuildHasher + Copy>(
     Ok(())
 }
 
-/// Adds the numbers of the entries that are filed under what the result's message has. If none is filed so, no key
-/// is made.
+/// Adds the numbers of the entries that are filed under what the result's message has, or under its snippet. If none is
+/// filed so, no key is made.
 fn add_with_message<S: BuildHasher + Copy>(
     alloc: Global,
     found: &mut Vec<u32>,
