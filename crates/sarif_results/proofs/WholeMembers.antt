@@ -57,7 +57,7 @@ found_whole name (member k d ms) of_ms =
     let parts = or_parts (has_float d) (members_have_float ms) of_ms in
     found_at (slice_cmp nat_cmp name k) d (get_member name ms) parts.0 (found_whole name ms parts.1)
 
-get_whole : (name : List ℕ) (d : Data) → has_float d ≡ false → found_float (get name d) ≡ false
+pub get_whole : (name : List ℕ) (d : Data) → has_float d ≡ false → found_float (get name d) ≡ false
 get_whole name null of_d = refl
 get_whole name (boolean b) of_d = refl
 get_whole name (number n) of_d = refl

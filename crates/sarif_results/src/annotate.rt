@@ -1,7 +1,7 @@
 //! A result's own suppressions.
 ghost use Rattle.std.specs.Prelude.{◌≡◌, codes, Some, OnOk, IfOk, option_map};
 ghost use Rattle.serde_json.specs.Data.{put as with_member, null};
-ghost use Rattle.serde_json.specs.Find.{get_member};
+ghost use Rattle.serde_json.specs.Find.{get, get_member};
 ghost use Rattle.serde_json.specs.View.{view, items_view, members_view};
 ghost use Rattle.sarif_results.specs.Annotated.{own_suppressions};
 ghost use Rattle.sarif_counts.specs.CountOf.{items_in};
@@ -37,7 +37,7 @@ fn replace_member(
 }
 
 /// Takes a result's own suppressions out, and leaves null instead.
-pub(crate) fn take_suppressions(
+fn take_suppressions(
     alloc: Global,
     members: &mut Map<String, Value>,
 ) -> Result<Vec<Value>, AllocError>
@@ -49,5 +49,19 @@ pub(crate) fn take_suppressions(
     match replace_member(alloc, members, "suppressions", Value::Null)? {
         Some(found) => Ok(into_items(alloc, found)),
         None => Ok(Vec::new(alloc)),
+    }
+}
+
+/// A result's own suppressions, of a value that has some of its members.
+pub(crate) fn own_of(alloc: Global, found: Value) -> Result<Vec<Value>, AllocError>
+    ensures { IfOk result
+        (λ own. items_view own.items ≡ items_in (get (codes "suppressions") (view found))) }
+{
+    match found {
+        Value::Object(members) => {
+            let mut members = members;
+            take_suppressions(alloc, &mut members)
+        }
+        _ => Ok(Vec::new(alloc)),
     }
 }
