@@ -232,11 +232,13 @@ impl<'t, 'a> ReadSoFar<'t, 'a> {
             → OnOk result (map placed_read self.new.runs.items
             ≡ map placed_read self.old.runs.items
             ++ placed_from checks.now source 0 (readable (log_of checks.now.allow_external bytes))) }
-        ensures results { (bytes : List ℕ) → IsParsedFrom checks.now.allow_external bytes parsed.entry
+        ensures results { (bytes : List ℕ)
+            → IsParsedFrom checks.now.allow_external bytes parsed.entry
             → OnOk result (self.new.results
             ≡ self.old.results + results_total (readable (log_of checks.now.allow_external bytes))) }
         ensures counted { OnOk result (IsCounted self.new) }
-        ensures faults { (bytes : List ℕ) → IsParsedFrom checks.now.allow_external bytes parsed.entry
+        ensures faults { (bytes : List ℕ)
+            → IsParsedFrom checks.now.allow_external bytes parsed.entry
             → Answers (faults_with source (log_of checks.now.allow_external bytes)
             (length self.old.runs.items) self.old.results) result }
         ensures quiet { IsQuiet result }

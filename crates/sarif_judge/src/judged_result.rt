@@ -1,12 +1,15 @@
 //! Judging one result.
-ghost use Rattle.std.specs.Prelude.{◌≡◌, ◌<◌, true, false, length, IfOk};
+ghost use Rattle.std.specs.Prelude.{◌≡◌, ◌<◌, true, false, length, codes, IfOk};
+ghost use Rattle.serde_json.specs.Find.{get};
 ghost use Rattle.serde_json.specs.View.{view};
 ghost use Rattle.serde_json.specs.Written.{has_float};
+ghost use Rattle.sarif_read.specs.Internal.Listed.{value_at};
 ghost use Rattle.sarif_model.specs.Run.{results_of};
 ghost use Rattle.sarif_runs.specs.Judging.{item_of, skips};
 ghost use Rattle.sarif_runs.specs.Internal.Opened.{placed_of};
 ghost use Rattle.sarif_results.specs.Internal.Outcomes.{draft_beside, outcome_of};
 
+use json_parts::Node;
 use sarif_model::Source;
 use sarif_read::is_marked_absent;
 use sarif_results::{Draft, Outcome, draft_current};
@@ -54,25 +57,28 @@ fn judge_known(alloc: Global, opened: &OpenedRun<'_, '_>, seq: u32) -> Result<It
     Ok(item)
 }
 
-/// The draft of a result of a log, where it has a record.
+/// The draft of the result of a node of a log, where it has a record. `found` has its own suppressions.
 fn draft_item(
     alloc: Global,
+    node: &Node<'_, '_>,
     found: Value,
     item: &Item,
     file: &Suppressions,
 ) -> Result<Option<Draft>, AllocError>
-    requires whole { has_float (view found) ≡ false }
+    requires whole { has_float (value_at node.now) ≡ false }
+    requires own { get (codes "suppressions") (view found)
+        ≡ get (codes "suppressions") (value_at node.now) }
     ensures { IfOk result
-        (λ draft. draft ≡ draft_beside file.now false (view found) item.now) }
+        (λ draft. draft ≡ draft_beside file.now false (value_at node.now) item.now) }
 {
     match item {
-        Item::Sound(record) => Ok(Some(draft_current(alloc, found, record, file)?)),
+        Item::Sound(record) => Ok(Some(draft_current(alloc, node, found, record, file)?)),
         Item::Bad(_) | Item::Skipped => Ok(None),
     }
 }
 
-/// Judges a result of a log.
-#[tactic(auto, using(sarif_results::proofs::WholeResults::result_whole), unfolding(sarif_runs::specs::Record::record_of))]
+/// Judges a result of a log. Only the members of its value that its item needs are made.
+#[tactic(auto, using(sarif_results::proofs::WholeResults::result_whole))]
 fn judge_current(
     alloc: Global,
     opened: &OpenedRun<'_, '_>,
@@ -84,9 +90,9 @@ fn judge_current(
     ensures { IfOk result
         (λ outcome. outcome ≡ outcome_of file.now (placed_of opened.now) seq) }
 {
-    let found = opened.result(alloc, seq)?;
+    let found = opened.pick_result(alloc, seq, &RECORD_MEMBERS)?;
     let item = opened.item_of(alloc, &found)?;
-    let draft = draft_item(alloc, found, &item, file)?;
+    let draft = draft_item(alloc, opened.node(seq), found, &item, file)?;
     Ok(Outcome { item, draft })
 }
 

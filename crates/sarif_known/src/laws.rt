@@ -25,7 +25,8 @@ ghost use Rattle.sarif_known.specs.declared.standing.Standing.{Standing};
 ghost use Rattle.sarif_model.specs.Driver.{tool_name};
 
 /// What is known is read again: the known log is read without an error, and the records of its results, read with the
-/// same options, are exactly those that were written, in their order. `known_text` ensures the premise.
+/// same options, are exactly those that were written, in their order. `known_text` ensures the
+/// premise.
 pub fn what_is_known_is_read_again()
     ensures log { (options : RecordOptions) (allow : Bool) (runs : List Chosen) (text : List ℕ)
         → CanBeRead options runs
