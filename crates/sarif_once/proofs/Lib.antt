@@ -1,0 +1,5 @@
+pub mod Faults
+pub mod Items
+pub mod Lists
+pub mod Marks
+pub mod Parts

@@ -1,0 +1,2 @@
+-- Definitions for contracts within and between the crates, and for proofs. The merge theorem reaches none of them.
+pub mod Parted

@@ -1,0 +1,54 @@
+//! Giving each copy what its finding has.
+ghost use Rattle.std.specs.Prelude.{◌≡◌, false, IfOk, None, slice_index_or};
+ghost use Rattle.sarif_copies.specs.Copies.{spread};
+
+use sarif_model::State;
+use std::alloc::{AllocError, Global};
+
+/// The state with this number, or none past the end.
+fn state_at(states: &[Option<State>], number: u32) -> Option<State>
+    ensures { result ≡ slice_index_or states.now number None }
+{
+    match states.get(number as usize) {
+        Some(state) => *state,
+        None => None,
+    }
+}
+
+/// For each result the state of its finding, which has this number among the findings. Returns `AllocError` if memory
+/// runs out.
+pub fn spread_states(
+    alloc: Global,
+    numbers: &[u32],
+    states: &[Option<State>],
+) -> Result<Vec<Option<State>>, AllocError>
+    ensures { IfOk result (λ all. all.items ≡ spread None numbers.now states.now) }
+{
+    let mut all = Vec::with_capacity(alloc, numbers.len())?;
+    for number in numbers {
+        all.push(state_at(states, *number))?;
+    }
+    Ok(all)
+}
+
+/// The mark with this number, or false past the end.
+fn mark_at(marks: &[bool], number: u32) -> bool
+    ensures { result ≡ slice_index_or marks.now number false }
+{
+    match marks.get(number as usize) {
+        Some(mark) => *mark,
+        None => false,
+    }
+}
+
+/// For each result the mark of its finding, which has this number among the findings. Returns `AllocError` if memory
+/// runs out.
+pub fn spread_marks(alloc: Global, numbers: &[u32], marks: &[bool]) -> Result<Vec<bool>, AllocError>
+    ensures { IfOk result (λ all. all.items ≡ spread false numbers.now marks.now) }
+{
+    let mut all = Vec::with_capacity(alloc, numbers.len())?;
+    for number in numbers {
+        all.push(mark_at(marks, *number))?;
+    }
+    Ok(all)
+}
