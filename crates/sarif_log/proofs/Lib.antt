@@ -1,3 +1,4 @@
+pub mod CopyNumbers
 pub mod LogText
 pub mod PartsCounted
 pub mod ResultCounts
@@ -7,4 +8,5 @@ pub mod RunResults
 pub mod RunTexts
 pub mod Sides
 pub mod Told
+pub mod Uncopied
 pub mod WholeRunMembers

@@ -1,5 +1,7 @@
 pub mod Assembled
 pub mod Beside
+pub mod Copies
+pub mod Counted
 pub mod Internal
 pub mod Log
 pub mod LogBy

@@ -1,12 +1,15 @@
 //! Assembling the merged log, while what is no longer needed is released.
-ghost use Rattle.std.specs.Prelude.{◌≡◌, List, Ok, Option, IfOk};
+ghost use Rattle.std.specs.Prelude.{◌≡◌, ℕ, List, Ok, Option, IfOk};
+ghost use Rattle.serde_json.specs.Data.{Data};
 ghost use Rattle.sarif_match.specs.declared.version.MatchingVersion.{MatchingVersion};
 ghost use Rattle.sarif_entries.specs.File.{File};
 ghost use Rattle.sarif_runs.specs.Placed.{Placed};
 ghost use Rattle.sarif_findings.specs.declared.reporting.Reporting.{Reporting};
+ghost use Rattle.sarif_log.specs.Counted.{IsMergedAs};
+ghost use Rattle.sarif_log.specs.declared.copies.CopyPlace.{CopyPlace};
 ghost use Rattle.sarif_log.specs.Beside.{IsMadeBy};
 ghost use Rattle.sarif_log.specs.Assembled.{IsMergedBy};
-ghost use Rattle.sarif_log.specs.Internal.Prepared.{IsPrepared};
+ghost use Rattle.sarif_log.specs.Internal.Prepared.{IsPrepared, IsPreparedAs};
 ghost use denote.Param.Send.{IsSend};
 
 use crate::facts::Facts;
@@ -40,16 +43,19 @@ pub fn assemble<
         (current_runs baseline_runs : List Placed) (asked : Option Reporting)
         → IsPrepared version file current_runs baseline_runs asked prepared
         → IsMergedBy version file current_runs baseline_runs options.now.policy asked made.0) }
+    ensures counted { IfOk result (λ made. (runs counted : List Data)
+        (places : Option (List CopyPlace)) (bare idle : ℕ) (asked : Option Reporting)
+        → IsPreparedAs runs counted places bare idle asked prepared
+        → IsMergedAs runs counted places options.now.policy bare idle asked made.0) }
     ensures life { IfOk result (λ made. made.0.life ≡ prepared.life) }
     ensures told { IfOk result (λ made. IsMadeBy Tell.FnOnce tell made.0 (Ok made.1)) }
 {
     let write = move || -> Result<(Merged, B), AllocError>
         requires { Tell.IsAlwaysCallable tell }
-        ensures merged { IfOk result (λ made. (version : MatchingVersion) (file : File)
-            (current_runs baseline_runs : List Placed) (asked : Option Reporting)
-            → IsPrepared version file current_runs baseline_runs asked prepared
-            → IsMergedBy version file current_runs baseline_runs
-            options.entry.now.policy asked made.0) }
+        ensures counted { IfOk result (λ made. (runs counted : List Data)
+            (places : Option (List CopyPlace)) (bare idle : ℕ) (asked : Option Reporting)
+            → IsPreparedAs runs counted places bare idle asked prepared
+            → IsMergedAs runs counted places options.entry.now.policy bare idle asked made.0) }
         ensures life { IfOk result (λ made. made.0.life ≡ prepared.life) }
         ensures told { IfOk result (λ made. IsMadeBy Tell.FnOnce tell made.0 (Ok made.1)) }
     { write_log(rt, alloc, prepared, options, tell) };

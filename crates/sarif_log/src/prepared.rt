@@ -1,5 +1,5 @@
 //! What a merged log is made of.
-ghost use Rattle.std.specs.Prelude.{◌≤◌, ◌+◌, ◌*◌, length};
+ghost use Rattle.std.specs.Prelude.{◌≡◌, ◌≤◌, ◌+◌, ◌*◌, length, option_map};
 ghost use Rattle.std.proofs.Props.{props};
 ghost use Rattle.sarif_log.specs.Internal.Side.{IsSide};
 ghost use Rattle.sarif_model.specs.Limits.{most_results};
@@ -18,6 +18,15 @@ pub struct Spent {
     pub baseline: Vec<Record>,
 }
 
+/// Which of the results that are written are copies.
+#[derive(Drop)]
+pub struct CopyFlags {
+    /// Whether each result of logs is a copy.
+    pub current: Vec<bool>,
+    /// Whether each written result of baselines is a copy.
+    pub baseline: Vec<bool>,
+}
+
 /// Everything that a merged log contains. Its sources are no longer needed.
 #[derive(Drop)]
 pub struct Prepared {
@@ -33,10 +42,16 @@ pub struct Prepared {
     pub findings: Vec<Finding>,
     /// What is for later merges.
     pub life: Life,
+    /// Which results are copies, where copies aren't counted.
+    pub copies: Option<CopyFlags>,
     /// What only has to be released.
     pub spent: Spent,
     pub ghost current_is: { IsSide current } by { Prim.hlevel props },
     pub ghost baseline_is: { IsSide baseline } by { Prim.hlevel props },
     pub ghost few: { length current.drafts.items + length baseline.drafts.items
         ≤ 2 * most_results },
+    pub ghost flags_of_current: { option_map (λ flags. length flags.current.items) copies
+        ≡ option_map (λ _. length current.drafts.items) copies },
+    pub ghost flags_of_baseline: { option_map (λ flags. length flags.baseline.items) copies
+        ≡ option_map (λ _. length baseline.drafts.items) copies },
 }

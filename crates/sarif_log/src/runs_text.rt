@@ -11,7 +11,7 @@ use sarif_results::Draft;
 use std::alloc::{AllocError, Global};
 
 /// How many results the run has.
-fn count_of(parts: &RunParts) -> usize
+pub(crate) fn count_of(parts: &RunParts) -> usize
     ensures { result ≡ count_in_parts parts.now }
 {
     match parts.results {

@@ -1,22 +1,31 @@
 //! Writing the log: its gate and its text.
-ghost use Rattle.std.specs.Prelude.{◌≡◌, ◌++◌, List, IfOk, Ok, false, map, string_bytes};
+ghost use Rattle.std.specs.Prelude.{◌≡◌, ◌+◌, ◌++◌, Bool, List, IfOk, Ok, false, map, option_map, string_bytes};
 ghost use Rattle.serde_json.specs.Data.{Data};
 ghost use Rattle.serde_json.specs.View.{view};
 ghost use Rattle.serde_json.specs.Written.{compact_text, has_float};
 ghost use Rattle.sarif_log.specs.Log.{log_with};
 ghost use Rattle.sarif_log.specs.Internal.Side.{IsSide, texts_of_left, texts_of_runs};
 ghost use Rattle.sarif_log.specs.Beside.{IsMadeBy, IsToldBy};
-ghost use Rattle.sarif_log.specs.Assembled.{IsLogOf};
-ghost use Rattle.sarif_log.specs.Internal.Written.{AreWritten};
+ghost use Rattle.sarif_counts.specs.Counts.{count_at};
+ghost use Rattle.sarif_counts.specs.Gate.{gate_of};
+ghost use Rattle.sarif_log.specs.Counted.{IsLogWith};
+ghost use Rattle.sarif_log.specs.Copies.{naming};
+ghost use Rattle.sarif_log.specs.Internal.Copied.{baseline_marks, counted_if, current_marks, places_by};
+ghost use Rattle.sarif_log.specs.Internal.Texts.{tallied};
+ghost use Rattle.sarif_model.specs.declared.kinds.Level.{Level as Grade};
+ghost use Rattle.sarif_model.specs.declared.kinds.State.{State as Stand};
+ghost use Rattle.sarif_log.specs.Internal.Written.{AreWrittenWith};
 
+use crate::copies::{CopyPlace, name_if};
 use crate::counting::count_sides;
 use crate::facts::Facts;
 use crate::merged::Merged;
 use crate::merged_text::{Side, log_text};
+use crate::places::list_places;
 use crate::prepared::Prepared;
-use sarif_counts::{gate_value, verdict};
+use sarif_counts::{Counts, gate_value, verdict};
 use sarif_model::Text;
-use sarif_options::Options;
+use sarif_options::{Options, Policy};
 use serde_json::Value;
 use std::alloc::{AllocError, Global};
 use std::thread;
@@ -51,6 +60,56 @@ fn text_beside<R: Threads + Sync, T: Drop, Say: FnOnce() -> T>(
     thread::join(rt, write, say)
 }
 
+/// The gate object, which names these copies if there is a list of them.
+fn named_gate(
+    alloc: Global,
+    counts: &Counts,
+    policy: &Policy,
+    without: u32,
+    unused: u32,
+    places: &Option<Vec<CopyPlace>>,
+) -> Result<Value, AllocError>
+    ensures value { IfOk result (λ v. view v
+        ≡ naming (option_map (λ list. list.items) places.now)
+        (gate_of (count_at counts.now) policy.now without unused)) }
+    ensures whole { IfOk result (λ v. has_float (view v) ≡ false) }
+{
+    let gate = gate_value(alloc, counts, policy, without, unused)?;
+    name_if(alloc, gate, places)
+}
+
+/// The counts of the results that are written, without the copies where it is known which they are, and the gate.
+#[tactic(auto, using(crate::proofs::Uncopied::flags_are))]
+fn weigh<R: Threads + Sync>(
+    rt: &R,
+    alloc: Global,
+    prepared: &Prepared,
+    options: &Options,
+) -> Result<(Counts, Value), AllocError>
+    ensures counts { IfOk result (λ made. (s : Stand) (l : Grade) (b : Bool) → count_at made.0 s l b
+        ≡ tallied prepared.now.current.drafts.items
+        (counted_if (current_marks prepared.now.copies) prepared.now.current.states.items) s l b
+        + tallied prepared.now.baseline.drafts.items
+        (counted_if (baseline_marks prepared.now.copies) prepared.now.baseline.states.items) s l b) }
+    ensures gate { IfOk result (λ made. view made.1
+        ≡ naming (places_by prepared.now.copies prepared.now.current prepared.now.baseline)
+        (gate_of (count_at made.0) options.now.policy prepared.now.without prepared.now.unused)) }
+    ensures whole { IfOk result (λ made. has_float (view made.1) ≡ false) }
+{
+    let Prepared {
+        current,
+        baseline,
+        without,
+        unused,
+        copies,
+        ..
+    } = prepared;
+    let counts = count_sides(rt, alloc, current, baseline, copies, options.workers)?;
+    let places = list_places(alloc, current, baseline, copies)?;
+    let gate = named_gate(alloc, &counts, &options.policy, *without, *unused, &places)?;
+    Ok((counts, gate))
+}
+
 /// Returns the log of what was prepared, with its gate, with what is for later merges, and what `tell` returns for
 /// the facts of the merge, which runs while the text is made.
 pub(crate) fn write_log<
@@ -65,13 +124,17 @@ pub(crate) fn write_log<
     tell: Tell,
 ) -> Result<(Merged, B), AllocError>
     requires tells { Tell.IsAlwaysCallable tell }
-    ensures log { IfOk result (λ made. (runs : List Data)
-        → AreWritten prepared.current prepared.baseline runs
-        → IsLogOf runs options.now.policy prepared.without prepared.unused made.0) }
+    ensures log { IfOk result (λ made. (runs counted : List Data)
+        → AreWrittenWith prepared.copies prepared.current prepared.baseline runs counted
+        → IsLogWith runs counted
+        (places_by prepared.copies prepared.current prepared.baseline)
+        options.now.policy prepared.without prepared.unused made.0) }
     ensures findings { IfOk result (λ made. made.0.findings.items ≡ prepared.findings.items) }
     ensures life { IfOk result (λ made. made.0.life ≡ prepared.life) }
     ensures told { IfOk result (λ made. IsMadeBy Tell.FnOnce tell made.0 (Ok made.1)) }
 {
+    let (counts, gate) = weigh(rt, alloc, &prepared, options)?;
+    let verdict = verdict(&counts, &options.policy);
     let Prepared {
         current,
         baseline,
@@ -80,10 +143,8 @@ pub(crate) fn write_log<
         findings,
         life,
         spent,
+        ..
     } = prepared;
-    let counts = count_sides(rt, alloc, &current, &baseline, options.workers)?;
-    let verdict = verdict(&counts, &options.policy);
-    let gate = gate_value(alloc, &counts, &options.policy, without, unused)?;
     let facts = Facts {
         counts: &counts,
         without,
@@ -99,10 +160,8 @@ pub(crate) fn write_log<
         tell(&facts)
     };
     let (text, told) = text_beside(rt, alloc, gate, current, baseline, say);
-    let log = Text::from_string(text?)?;
-    let told = told?;
     let merged = Merged {
-        log,
+        log: Text::from_string(text?)?,
         counts,
         verdict,
         without,
@@ -110,5 +169,5 @@ pub(crate) fn write_log<
         findings,
         life,
     };
-    Ok((merged, told))
+    Ok((merged, told?))
 }

@@ -1,5 +1,6 @@
 -- What is assembled.
-use Rattle.std.specs.Prelude.{◌≡◌, List, Option}
+use Rattle.std.specs.Prelude.{◌≡◌, ℕ, List, Option, None}
+use Rattle.serde_json.specs.Data.{Data}
 use Rattle.sarif_match.specs.declared.version.MatchingVersion.{MatchingVersion}
 use Rattle.sarif_entries.specs.File.{File}
 use Rattle.sarif_suppress.specs.Suppressing.{unused_of}
@@ -9,7 +10,9 @@ use Rattle.sarif_findings.specs.declared.reporting.Reporting.{Reporting}
 use Rattle.sarif_log.specs.declared.prepared.Prepared.{Prepared}
 use Rattle.sarif_log.specs.LogBy.{runs_by, runs_without_results}
 use Rattle.sarif_log.specs.Told.{told_of}
-use Rattle.sarif_log.specs.Internal.Written.{AreWritten}
+use Rattle.sarif_log.specs.declared.copies.CopyPlace.{CopyPlace}
+use Rattle.sarif_log.specs.Internal.Copied.{places_by}
+use Rattle.sarif_log.specs.Internal.Written.{AreWritten, AreWrittenWith}
 
 -- everything that is written for the merge of these input runs, these baseline runs and this suppression file, matched
 -- by this version, and its findings
@@ -20,3 +23,14 @@ pub record IsPrepared (version : MatchingVersion) (file : File) (current baselin
   pub without : prepared.without ≡ runs_without_results (run_values current)
   pub unused : prepared.unused ≡ unused_of file (records_of current)
   pub told : prepared.findings.items ≡ told_of asked (runs_by version file current baseline)
+  pub copies : prepared.copies ≡ None
+
+-- everything that is written for a merge whose log has these runs, whose gate counts the results of other runs and names
+-- these copies, and the findings of the runs that are counted
+pub record IsPreparedAs (runs counted : List Data) (places : Option (List CopyPlace))
+    (bare idle : ℕ) (asked : Option Reporting) (prepared : Prepared) : Type 0 where
+  pub written : AreWrittenWith prepared.copies prepared.current prepared.baseline runs counted
+  pub named : places_by prepared.copies prepared.current prepared.baseline ≡ places
+  pub without : prepared.without ≡ bare
+  pub unused : prepared.unused ≡ idle
+  pub told : prepared.findings.items ≡ told_of asked counted

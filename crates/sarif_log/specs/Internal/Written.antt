@@ -9,6 +9,8 @@ use Rattle.sarif_counts.specs.Counts.{count_at, total_of}
 use Rattle.sarif_counts.specs.declared.counts.Counts.{Counts}
 use Rattle.sarif_results.specs.declared.draft.Draft.{Draft}
 use Rattle.sarif_log.specs.declared.merged_text.Side.{Side}
+use Rattle.sarif_log.specs.declared.prepared.CopyFlags.{CopyFlags}
+use Rattle.sarif_log.specs.Internal.Copied.{baseline_marks, counted_if, current_marks}
 use Rattle.sarif_log.specs.Internal.Texts.{tallied}
 use Rattle.sarif_log.specs.Internal.Side.{texts_of_left, texts_of_runs}
 
@@ -18,6 +20,18 @@ pub record AreCounted (drafts : List Draft) (states : List (Option State)) (coun
   pub each : (state : State) (level : Level) (suppressed : Bool)
       → count_at counts state level suppressed ≡ tallied drafts states state level suppressed
   pub few : total_of counts ≤ length drafts
+
+-- the JSON of the runs of logs, and of the unmatched results of baselines, is that of these runs, and the counts without
+-- the copies are those of the counted runs
+pub record AreWrittenWith (copies : Option CopyFlags) (current baseline : Side)
+    (runs counted : List Data) : Type 0 where
+  pub texts : map compact_text runs ≡ texts_of_runs current ++ texts_of_left baseline
+  pub counts : (state : State) (level : Level) (suppressed : Bool)
+      → tallied current.drafts.items
+      (counted_if (current_marks copies) current.states.items) state level suppressed
+      + tallied baseline.drafts.items
+      (counted_if (baseline_marks copies) baseline.states.items) state level suppressed
+      ≡ count_of counted state level suppressed
 
 -- the JSON and the counts of the runs of logs, and of the unmatched results of baselines, are those of these runs
 pub record AreWritten (current baseline : Side) (runs : List Data) : Type 0 where

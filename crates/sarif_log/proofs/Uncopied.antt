@@ -1,0 +1,100 @@
+-- If copies are counted, a merge is what it was.
+use Rattle.std.proofs.Common.{◌≡◌, ℕ, Bool, List, length, option_map, Option, Some, None, Result, Ok, Err, IfOk, refl, ◌∙◌, subst}
+use Rattle.serde_json.specs.Data.{Data}
+use Rattle.sarif_counts.specs.Hits.{Count}
+use Rattle.sarif_model.specs.declared.kinds.Level.{Level}
+use Rattle.sarif_model.specs.declared.kinds.State.{State}
+use Rattle.sarif_entries.specs.File.{File}
+use Rattle.sarif_findings.specs.declared.reporting.Reporting.{Reporting}
+use Rattle.sarif_match.specs.declared.version.MatchingVersion.{MatchingVersion}
+use Rattle.sarif_options.specs.declared.policy.Policy.{Policy}
+use Rattle.sarif_runs.specs.Judging.{records_of, run_values}
+use Rattle.sarif_runs.specs.Placed.{Placed}
+use Rattle.sarif_suppress.specs.Suppressing.{unused_of}
+use Rattle.sarif_log.specs.Assembled.{IsMergedBy}
+use Rattle.sarif_log.specs.Counted.{IsLogWith, IsMergedAs}
+use Rattle.sarif_log.specs.declared.copies.CopyPlace.{CopyPlace}
+use Rattle.sarif_log.specs.declared.merged.Merged.{Merged}
+use Rattle.sarif_log.specs.declared.prepared.CopyFlags.{CopyFlags}
+use Rattle.sarif_log.specs.declared.prepared.Prepared.{Prepared}
+use Rattle.sarif_log.specs.declared.merged_text.Side.{Side}
+use Rattle.sarif_log.specs.Internal.Copied.{places_by, AreFlagsIf}
+use Rattle.sarif_log.specs.Internal.Prepared.{IsPrepared, IsPreparedAs}
+use Rattle.sarif_log.specs.Internal.Written.{AreWritten, AreWrittenWith}
+use Rattle.sarif_log.specs.LogBy.{runs_by, runs_without_results}
+
+written_all : (copies : Option CopyFlags) (current baseline : Side) (runs : List Data) → copies ≡ None → AreWritten current baseline runs
+    → AreWrittenWith copies current baseline runs runs
+written_all None current baseline runs is h = record { texts = h.texts; counts = h.counts }
+written_all (Some flags) current baseline runs is h = cc
+
+no_places : (copies : Option CopyFlags) (current baseline : Side) → copies ≡ None → places_by copies current baseline ≡ None
+no_places None current baseline is = refl
+no_places (Some flags) current baseline is = cc
+
+pub prepared_all : (v : MatchingVersion) (file : File) (now before : List Placed) (asked : Option Reporting) (prepared : Prepared)
+    → IsPrepared v file now before asked prepared
+    → IsPreparedAs (runs_by v file now before) (runs_by v file now before) None (runs_without_results (run_values now)) (unused_of file (records_of now)) asked
+    prepared
+prepared_all v file now before asked prepared h = record {
+  written = written_all prepared.copies prepared.current prepared.baseline (runs_by v file now before) h.copies h.written;
+  named = no_places prepared.copies prepared.current prepared.baseline h.copies;
+  without = h.without;
+  unused = h.unused;
+  told = h.told;
+}
+
+merged_all : (v : MatchingVersion) (file : File) (now before : List Placed) (policy : Policy) (asked : Option Reporting) (merged : Merged)
+    → IsMergedAs (runs_by v file now before) (runs_by v file now before) None policy (runs_without_results (run_values now)) (unused_of file (records_of now))
+    asked merged
+    → IsMergedBy v file now before policy asked merged
+merged_all v file now before policy asked merged h =
+    record { written = record { log = h.written.log; gate = h.written.gate }; told = h.told }
+
+-- a merge of what was prepared without copies apart
+pub merged_by : (prepared : Prepared) (policy : Policy) (merged : Merged)
+    → ((runs counted : List Data) (places : Option (List CopyPlace)) (bare idle : ℕ) (asked : Option Reporting)
+    → IsPreparedAs runs counted places bare idle asked prepared → IsMergedAs runs counted places policy bare idle asked merged)
+    → (v : MatchingVersion) (file : File) (now before : List Placed) (asked : Option Reporting) → IsPrepared v file now before asked prepared
+    → IsMergedBy v file now before policy asked merged
+merged_by prepared policy merged made = λ v file now before asked h.
+    merged_all v file now before policy asked merged
+    (made (runs_by v file now before) (runs_by v file now before) None (runs_without_results (run_values now)) (unused_of file (records_of now)) asked
+    (prepared_all v file now before asked prepared h))
+
+-- there is a mark for each result
+pub flags_are : (copies : Option CopyFlags) (current baseline : Side)
+    → option_map (λ flags. length flags.current.items) copies ≡ option_map (λ _. length current.drafts.items) copies
+    → option_map (λ flags. length flags.baseline.items) copies ≡ option_map (λ _. length baseline.drafts.items) copies
+    → AreFlagsIf copies current baseline
+flags_are None current baseline here there = tt
+flags_are (Some flags) current baseline here there = (cc here, cc there)
+
+-- ---- what is true of a result that is there
+
+pub if_one : {X E : Type 0} (P R : X → Type 0) (r : Result X E) → IfOk r P → ((x : X) → P x → R x) → IfOk r R
+if_one P R (Ok x) p more = more x p
+if_one P R (Err e) p more = tt
+
+pub if_both : {X E : Type 0} (P Q R : X → Type 0) (r : Result X E) → IfOk r P → IfOk r Q → ((x : X) → P x → Q x → R x) → IfOk r R
+if_both P Q R (Ok x) p q more = more x p q
+if_both P Q R (Err e) p q more = tt
+
+-- counts that are equal everywhere
+pub counts_same : (f g : Count) → ((s : State) (l : Level) (b : Bool) → f s l b ≡ g s l b) → f ≡ g
+counts_same f g each = λ i s l b. each s l b i
+
+-- a merge whose log is that of what was prepared
+pub merged_as : (prepared : Prepared) (policy : Policy) (made : Merged)
+    → ((runs counted : List Data) → AreWrittenWith prepared.copies prepared.current prepared.baseline runs counted
+    → IsLogWith runs counted (places_by prepared.copies prepared.current prepared.baseline) policy prepared.without prepared.unused made)
+    → made.findings.items ≡ prepared.findings.items
+    → (runs counted : List Data) (places : Option (List CopyPlace)) (bare idle : ℕ) (asked : Option Reporting)
+    → IsPreparedAs runs counted places bare idle asked prepared → IsMergedAs runs counted places policy bare idle asked made
+merged_as prepared policy made log findings = λ runs counted places bare idle asked h. record {
+  written =
+      subst (λ n. IsLogWith runs counted places policy bare n made) h.unused
+      (subst (λ n. IsLogWith runs counted places policy n prepared.unused made) h.without
+      (subst (λ ps. IsLogWith runs counted ps policy prepared.without prepared.unused made) h.named (log runs counted h.written)));
+  told = findings ∙ h.told;
+}

@@ -1,0 +1,27 @@
+-- What assembling a merged log gives whose copies aren't counted.
+use Rattle.std.specs.Prelude.{◌≡◌, ℕ, List, Option}
+use Rattle.serde_json.specs.Data.{Data}
+use Rattle.serde_json.specs.Written.{compact_text}
+use Rattle.sarif_counts.specs.CountOf.{count_of}
+use Rattle.sarif_counts.specs.Gate.{gate_of}
+use Rattle.sarif_findings.specs.declared.reporting.Reporting.{Reporting}
+use Rattle.sarif_options.specs.declared.policy.Policy.{Policy}
+use Rattle.sarif_log.specs.Assembled.{HasGate}
+use Rattle.sarif_log.specs.Copies.{naming}
+use Rattle.sarif_log.specs.declared.copies.CopyPlace.{CopyPlace}
+use Rattle.sarif_log.specs.declared.merged.Merged.{Merged}
+use Rattle.sarif_log.specs.Log.{log_with}
+use Rattle.sarif_log.specs.Told.{told_of}
+
+-- a merge whose log has these runs, and whose gate counts the results of other runs and names these copies
+pub record IsLogWith (runs counted : List Data) (places : Option (List CopyPlace)) (policy : Policy)
+    (without unused : ℕ) (merged : Merged) : Type 0 where
+  pub log : merged.log
+      ≡ compact_text (log_with (naming places (gate_of (count_of counted) policy without unused)) runs)
+  pub gate : HasGate counted policy without unused merged
+
+-- such a merge, with the findings of the runs that are counted, for its reports
+pub record IsMergedAs (runs counted : List Data) (places : Option (List CopyPlace)) (policy : Policy)
+    (without unused : ℕ) (asked : Option Reporting) (merged : Merged) : Type 0 where
+  pub written : IsLogWith runs counted places policy without unused merged
+  pub told : merged.findings.items ≡ told_of asked counted
