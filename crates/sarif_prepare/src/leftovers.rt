@@ -59,13 +59,13 @@ pub(crate) fn list_leftovers<'w, 't, 'a>(
     Ok(left)
 }
 
-/// The draft of one of them.
+/// The draft of an unmatched baseline result. A value is made of its own suppressions alone.
 #[tactic(auto, using(sarif_results::proofs::WholeResults::result_whole))]
 fn draft_leftover(alloc: Global, left: &Leftover<'_, '_, '_>) -> Result<Draft, AllocError>
     ensures { IfOk result (λ draft. draft ≡ leftover_draft left.now) }
 {
-    let found = left.run.result(alloc, left.seq)?;
-    let draft = draft_absent(alloc, found, left.record)?;
+    let found = left.run.pick_result(alloc, left.seq, &["suppressions"])?;
+    let draft = draft_absent(alloc, left.run.node(left.seq), found, left.record)?;
     Ok(draft)
 }
 

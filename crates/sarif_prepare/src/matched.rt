@@ -1,5 +1,5 @@
 //! What matching makes of the results.
-ghost use Rattle.std.specs.Prelude.{◌≡◌, ◌≤◌, length, map, Some, IfOk};
+ghost use Rattle.std.specs.Prelude.{◌≡◌, ◌+◌, ◌≤◌, length, map, Some, IfOk};
 ghost use Rattle.std.specs.List.{range_with_len};
 ghost use Rattle.sarif_match.specs.Partners.{is_taken};
 ghost use Rattle.sarif_known.specs.Standing.{standing_of};
@@ -10,8 +10,13 @@ ghost use Rattle.sarif_model.specs.Limits.{most_results};
 use sarif_known::{Standing, standing_of};
 use sarif_match::{Matching, MatchingVersion, match_all_in};
 use sarif_model::{Record, State};
+use sarif_options::Options;
+use sarif_share::{Sharing, join_lists, share_parts};
 use std::alloc::{AllocError, Global};
-use std::hash::RandomState;
+use std::thread::Threads;
+
+/// For fewer results it is not worth starting another thread.
+const LEAST_SHARED: usize = 8192;
 
 /// What matching says about each current result, and whether each baseline result is the match of a current result.
 #[derive(Drop)]
@@ -37,23 +42,60 @@ fn standing_beside(
     }
 }
 
-/// What matching says about each current result.
-fn list_standings(
-    alloc: Global,
+/// The matches of current results in a version, and the baseline results that they name.
+#[derive(Clone, Copy)]
+struct Matches<'m> {
     version: MatchingVersion,
+    baseline: &'m [Record],
+    matching: &'m Matching,
+}
+
+/// What matching says about some current results, the first of them with number `first`.
+fn standings_in_turn(
+    alloc: Global,
+    matches: Matches<'_>,
+    first: usize,
     current: &[Record],
-    baseline: &[Record],
-    matching: &Matching,
 ) -> Result<Vec<Standing>, AllocError>
-    requires { length current.now ≤ most_results }
-    ensures { IfOk result (λ standings.
-        standings.items ≡ standings_from version baseline.now matching.now 0 current.now) }
+    requires { first + length current.now ≤ most_results }
+    ensures { IfOk result (λ standings. standings.items ≡ standings_from matches.entry.version
+        matches.entry.baseline.now matches.entry.matching.now first current.now) }
 {
     let mut standings = Vec::with_capacity(alloc, current.len())?;
-    for (number, record) in current.iter().enumerate() {
-        let partner = matching.partner(number as u32);
-        standings.push(standing_beside(version, record, baseline, partner))?;
+    let mut number = first as u32;
+    for record in current {
+        let partner = matches.matching.partner(number);
+        standings.push(standing_beside(matches.version, record, matches.baseline, partner))?;
+        number += 1;
     }
+    Ok(standings)
+}
+
+/// What matching says about each current result, in at most `threads` threads, this one among them.
+fn list_standings<R: Threads + Sync>(
+    rt: &R,
+    alloc: Global,
+    matches: Matches<'_>,
+    current: &[Record],
+    threads: u32,
+) -> Result<Vec<Standing>, AllocError>
+    requires { length current.now ≤ most_results }
+    ensures { IfOk result (λ standings. standings.items ≡ standings_from matches.entry.version
+        matches.entry.baseline.now matches.entry.matching.now 0 current.now) }
+{
+    let sharing = Sharing {
+        rt,
+        alloc,
+        threads,
+        least: LEAST_SHARED,
+    };
+    let part = move |start: usize, some: &[Record]| -> Result<Vec<Standing>, AllocError>
+        requires { start + length some.now ≤ most_results }
+        ensures { IfOk result (λ standings. standings.items ≡ standings_from matches.entry.version
+            matches.entry.baseline.now matches.entry.matching.now start some.now) }
+    { standings_in_turn(alloc, matches, start, some) };
+    let lists = share_parts(&sharing, current, &part)?;
+    let standings = join_lists(alloc, current.len(), lists)?;
     Ok(standings)
 }
 
@@ -81,25 +123,32 @@ fn list_states(alloc: Global, standings: &[Standing]) -> Result<Vec<Option<State
     Ok(states)
 }
 
-/// Matches the results of all logs with those of all baselines by a version, with tables that hash with `seed`.
-pub(crate) fn match_records(
+/// Matches the results of all logs with those of all baselines by the version of the options, with tables that hash
+/// with their seed. States are found in as many threads as there are workers, and this one.
+pub(crate) fn match_records<R: Threads + Sync>(
+    rt: &R,
     alloc: Global,
-    seed: RandomState,
-    version: MatchingVersion,
+    options: &Options,
     current: &[Record],
     baseline: &[Record],
 ) -> Result<MatchedStates, AllocError>
     requires current { length current.now ≤ most_results }
     requires baseline { length baseline.now ≤ most_results }
     ensures standings { IfOk result (λ matched. matched.standings.items
-        ≡ standings_of version current.now baseline.now) }
-    ensures states { IfOk result
-        (λ matched. matched.states.items ≡ map Some (states_of version current.now baseline.now)) }
-    ensures taken { IfOk result
-        (λ matched. matched.taken.items ≡ taken_of version current.now baseline.now) }
+        ≡ standings_of options.now.checks.matching current.now baseline.now) }
+    ensures states { IfOk result (λ matched. matched.states.items
+        ≡ map Some (states_of options.now.checks.matching current.now baseline.now)) }
+    ensures taken { IfOk result (λ matched. matched.taken.items
+        ≡ taken_of options.now.checks.matching current.now baseline.now) }
 {
-    let matching = match_all_in(alloc, seed, current, baseline, version)?;
-    let standings = list_standings(alloc, version, current, baseline, &matching)?;
+    let version = options.checks.matching;
+    let matching = match_all_in(alloc, options.seed, current, baseline, version)?;
+    let matches = Matches {
+        version,
+        baseline,
+        matching: &matching,
+    };
+    let standings = list_standings(rt, alloc, matches, current, options.workers + 1)?;
     let states = list_states(alloc, &standings)?;
     let taken = list_taken(alloc, baseline.len() as u32, &matching)?;
     Ok(MatchedStates {

@@ -84,13 +84,7 @@ fn pair_results<R: Threads + Sync>(
         standings,
         states,
         taken,
-    } = match_records(
-        alloc,
-        options.seed,
-        options.checks.matching,
-        &current.records,
-        records,
-    )?;
+    } = match_records(rt, alloc, options, &current.records, records)?;
     let left = left_drafts(rt, alloc, baselines, &taken, options.workers + 1)?;
     Ok(Paired {
         standings,
@@ -278,6 +272,7 @@ fn prepare_sides<R: Threads + Sync>(
         unused,
         findings,
         life,
+        copies: None,
         spent,
     })
 }
@@ -300,7 +295,8 @@ pub fn prepare<R: Threads + Sync>(
     requires read { IsFileOf (bytes_of rules.now) rules.now.file.now }
     requires current { IsJudged rules.now.file.now false current }
     requires baseline { IsJudged rules.now.file.now true baseline }
-    ensures prepared { IfOk result (IsPrepared asked.now.options.now.checks.matching rules.now.file.now (placed_in current.entry)
+    ensures prepared { IfOk result (IsPrepared asked.now.options.now.checks.matching
+        rules.now.file.now (placed_in current.entry)
         (placed_in baseline.entry) (reporting_in asked.now)) }
     ensures kept { IfOk result (λ prepared. IsKept (merge_of asked.now.options.now.checks.matching
         rules.now.file.now (bytes_of rules.now)

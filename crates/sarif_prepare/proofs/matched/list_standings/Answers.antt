@@ -1,14 +1,12 @@
-use Rattle.std.proofs.Common.{ap, ◌∙◌}
-use Rattle.sarif_known.specs.Standing.{standing_of}
-use Rattle.sarif_log.specs.LogBy.{partner_in}
-use Rattle.sarif_prepare.proofs.StandingsMore.{standings_more}
+use Rattle.std.proofs.Common.{◌≡◌, subst}
+use Rattle.sarif_prepare.specs.Kept.{standings_from}
+use Rattle.sarif_prepare.proofs.StandingsMore.{all_standing}
 use Rattle.sarif_prepare.proofs.matched.list_standings.Goals as goal
 
-pub loop-number-preserved : goal.loop-number-preserved
-loop-number-preserved c =
-    let r = c.index-current-number.result in
-    let bs = c.args.baseline.now in
-    let said = c.standing_beside.ensures ∙ ap (λ p. standing_of c.args.version r (partner_in bs p)) c.partner-partner.ensures in
-    rw c.in_ok-push.ensures.items
-    (standings_more c.args.version bs c.args.matching.now c.args.current.now c.loop-number.standings.items c.loop-number.number r c.standing_beside.result _
-    c.loop-number-test.true c.index-current-number.is said c.loop-number.invariant)
+pub returns : goal.returns
+returns g c =
+    let v = c.args.matches.version in
+    let bs = c.args.matches.baseline.now in
+    let ms = c.args.matches.matching.now in
+    all_standing _ _ v bs ms (λ start part made given. subst (λ cs. made.items ≡ standings_from v bs ms start cs) given.shows given.call)
+    c.args.current.now c.in_ok-lists.lists.items c.in_ok-standings.standings.items c.in_ok-lists.ensures c.in_ok-standings.ensures

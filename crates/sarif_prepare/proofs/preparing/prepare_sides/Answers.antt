@@ -1,4 +1,4 @@
-use Rattle.std.proofs.Common.{length, sym, ap, ◌∙◌, subst, arith}
+use Rattle.std.proofs.Common.{length, refl, sym, ap, ◌∙◌, subst, arith}
 use Rattle.std.proofs.lemmas.Result.{err_from_is_err_and}
 use Rattle.std.specs.List.{flat_map}
 use Rattle.sarif_model.specs.Run.{results_of}
@@ -42,6 +42,8 @@ invariant_of-result g c =
           c.in_ok-side.ensures.whole c.in_ok-side.ensures.drafts (c.in_ok-side.ensures.states ∙ q.states);
       baseline_is = left_is_side before c.args.baselines taken t h.are_baselines left taken_all;
       few = omega (arith, many, drafts, fewer, h.few_current, h.few_baseline);
+      flags_of_current = refl;
+      flags_of_baseline = refl;
     }
 
 pub returns-clause-prepared : goal.returns-clause-prepared
@@ -66,6 +68,7 @@ returns-clause-prepared g c = λ now before h.
           c.in_ok-side.ensures.unused (records_of now) (flat_map results_of (run_values now))
           (h.current_records ∙ sym (results_long (run_values now))) h.is_current.drafts;
       told = c.in_ok-paired.ensures.findings file now before h;
+      copies = refl;
     }
 
 pub returns-clause-kept : goal.returns-clause-kept
