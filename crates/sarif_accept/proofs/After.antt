@@ -2,7 +2,7 @@
 use Rattle.std.proofs.Common.{◌≡◌, ◌⊎◌, inl, inr, ℕ, ◌<◌, zero, suc, Bool, true, false, ◌&&◌, ◌||◌, not, List, [], ◌∷◌, ◌++◌, length, map, get_or, Option, refl, sym, ap, ◌∙◌, arith, if◌then◌else◌, true≢false, append_assoc, append-nil}
 use Rattle.std.specs.Prelude.{filter}
 use Rattle.std.specs.List.{list_any, list_all}
-use Rattle.std.proofs.lemmas.List.{map-append}
+use Rattle.std.proofs.lemmas.List.{get_or-map, length-map, map-append}
 use Rattle.std.proofs.lemmas.List.Elements.{filter-append}
 use Rattle.std.proofs.lemmas.List.Folds.{list_all-append, list_any-append, list_any_at}
 use Rattle.std.proofs.lemmas.Bool.{or_right, or_left, and_parts}
@@ -22,11 +22,12 @@ use Rattle.sarif_suppress.specs.Suppressing.{matching, statuses_suppress, status
 use Rattle.sarif_entries.specs.Object.{is_object_of, object_of}
 use Rattle.sarif_suppress.specs.Written.{with_object, with_objects, suppressions_of}
 use Rattle.sarif_suppress.proofs.Numbered.{is_empty-append}
+use Rattle.sarif_match.specs.Seen.{as_matched}
 use Rattle.sarif_accept.specs.Entry.{conditions_for}
 use Rattle.sarif_accept.specs.Keeping.{Heard, is_kept}
 use Rattle.sarif_accept.specs.Adding.{as_read, How, MayBeHit, is_hit, stays, is_said, once_each, entry_read, accepted_among, added_for, file_after}
 use Rattle.sarif_accept.specs.Until.{IsUntil}
-use Rattle.sarif_accept.proofs.EntryMatches.{matches_is}
+use Rattle.sarif_accept.proofs.EntryMatches.{any_as, matches_is}
 use Rattle.sarif_accept.proofs.SameConditions.{same_conditions-Decides}
 
 -- ---- results that are accepted by one entry
@@ -201,8 +202,15 @@ added_matches : (how : How) (counts : MayBeHit) (file : File) (rs : List Record)
     → list_any (λ e. matches file.today e r) (map (λ x. entry_read x how.renewal.reason how.renewal.until) (added_for how counts file rs states)) ≡ true
 added_matches how counts file rs states r state i within inside is at accepts until hit =
     let place = among_accepted counts file rs states r state i within inside is at hit in
-    rw accepts (said_matches file.today how.renewal.reason how.renewal.until r (once_each [] (accepted_among counts file rs states)) until
-    (once_said [] (accepted_among counts file rs states) r place.0 place.1 place.2))
+    let shown = as_matched how.matching in
+    let accepted = accepted_among counts file rs states in
+    let all = map shown accepted in
+    let there : get_or all place.0 (shown r) ≡ shown r = get_or-map shown accepted place.0 r (shown r) place.1 ∙ ap shown place.2 in
+    let inside_all : place.0 < length all = omega (arith, place.1, length-map accepted shown) in
+    rw accepts
+    (any_as how.matching file.today (map (λ x. entry_read x how.renewal.reason how.renewal.until) (once_each [] all)) r
+    (said_matches file.today how.renewal.reason how.renewal.until (shown r) (once_each [] all) until
+    (once_said [] all (shown r) place.0 inside_all there)))
 
 -- the hits of afterwards are those of before that stay
 pub hits_after : (how : How) (counts : MayBeHit) (file : File) (rs : List Record) (states : List State) (r : Record) (state : State) (i : ℕ)

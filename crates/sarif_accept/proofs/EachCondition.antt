@@ -10,13 +10,14 @@ use Rattle.std.proofs.lemmas.Bool.Decides.{nat_tests}
 use Rattle.std.proofs.lemmas.Slice.Eq.{bytes_eq-Decides, slice_eq-Decides}
 use Rattle.serde_json.specs.Data.{Data, string, array, object}
 use Rattle.serde_json.specs.View.{items_of}
+use Rattle.sarif_match.specs.Seen.{packed}
 use Rattle.sarif_model.specs.Guid.{guid_text}
 use Rattle.sarif_model.specs.declared.record.Record.{Record}
 use Rattle.sarif_entries.specs.declared.condition.Condition.{Condition}
-use Rattle.sarif_entries.specs.declared.condition.Condition.TheVariants.{Tool, RuleId, Uri, UriPrefix, Guid, Fingerprints, PartialFingerprints, Message, MessageId, MessageArguments}
+use Rattle.sarif_entries.specs.declared.condition.Condition.TheVariants.{Tool, RuleId, Uri, UriPrefix, Guid, Fingerprints, PartialFingerprints, Message, MessageId, MessageArguments, Snippet}
 use Rattle.sarif_entries.specs.declared.condition.ConditionKind.{ConditionKind}
 use Rattle.sarif_entries.specs.declared.condition.ConditionKind.TheVariants as kinds
-use Rattle.sarif_entries.specs.Condition.{Form, a_text, a_guid, some_pairs, some_texts, form_of, unless_empty, is_pair, is_same, is_text, is_guid, are_among, holds, own_of, text_of}
+use Rattle.sarif_entries.specs.Condition.{Form, a_text, a_guid, some_pairs, some_texts, form_of, unless_empty, is_pair, is_same, is_snippet, is_text, is_guid, are_among, holds, own_of, text_of}
 use Rattle.sarif_entries.specs.Entries.{pairs_of}
 use Rattle.sarif_entries.proofs.MessageKeys.{key-Decides}
 use Rattle.sarif_entries.proofs.Meaning.{pair_means}
@@ -44,6 +45,7 @@ is_same-Decides (PartialFingerprints a) (PartialFingerprints b) = (λ t. ap Part
 is_same-Decides (Message a) (Message b) = (λ t. ap Message ((bytes_eq-Decides a b).0 t), λ e. (bytes_eq-Decides a b).1 cc)
 is_same-Decides (MessageId a) (MessageId b) = (λ t. ap MessageId ((bytes_eq-Decides a b).0 t), λ e. (bytes_eq-Decides a b).1 cc)
 is_same-Decides (MessageArguments a) (MessageArguments b) = (λ t. ap MessageArguments ((key-Decides a b).0 t), λ e. (key-Decides a b).1 cc)
+is_same-Decides (Snippet a) (Snippet b) = (λ t. ap Snippet ((bytes_eq-Decides a b).0 t), λ e. (bytes_eq-Decides a b).1 cc)
 is_same-Decides a b = (λ t. absurd (false≢true t), λ e. let never : ⊥ = cc in absurd never)
 
 -- ---- a condition of a result is made from a value of its form
@@ -65,6 +67,7 @@ own_made r fits kinds.PartialFingerprints = (r.partial, refl)
 own_made r fits kinds.Message = (r.message.text, refl)
 own_made r fits kinds.MessageId = (r.message.id, refl)
 own_made r fits kinds.MessageArguments = (r.message.args, refl)
+own_made r fits kinds.Snippet = (r.snippet, refl)
 
 if_made : (form : Form) (b : Bool) (o : Option Condition) → IsMade form o → IsMade form (if b then o else None)
 if_made (a_text make) true o made = made
@@ -118,6 +121,11 @@ module _ (r : Record) where
   texts_held make [] is = refl
   texts_held make (t ∷ ts) is = is (t ∷ ts) ∙ (key-Decides (t ∷ ts) (t ∷ ts)).1 refl
 
+  snippet_held : (found : Option (List ℕ)) → ((text : List ℕ) → holds (as_read (Snippet text)) r ≡ is_snippet text found)
+      → Held (option_map Snippet found)
+  snippet_held None is = refl
+  snippet_held (Some text) is = is text ∙ same_text (packed text)
+
   own_held : (kind : ConditionKind) → Held (own_of kind r)
   own_held kinds.Tool = same_text r.tool
   own_held kinds.RuleId = same_text r.rule_id
@@ -129,6 +137,7 @@ module _ (r : Record) where
   own_held kinds.Message = text_held Message r.message.text (λ _. refl)
   own_held kinds.MessageId = text_held MessageId r.message.id (λ _. refl)
   own_held kinds.MessageArguments = texts_held MessageArguments r.message.args (λ _. refl)
+  own_held kinds.Snippet = snippet_held r.snippet (λ _. refl)
 
   pub asked_held : (kind : ConditionKind) → Held (asked_of r kind)
   asked_held kind = by_test (is_asked kind r)
@@ -155,6 +164,7 @@ value_has each (PartialFingerprints pairs) = each.pairs pairs
 value_has each (Message text) = each.text text
 value_has each (MessageId id) = each.text id
 value_has each (MessageArguments texts) = each.list texts
+value_has each (Snippet text) = each.text text
 
 -- ---- a string that a condition names is the value of its member
 
@@ -165,4 +175,5 @@ text_is_value (Uri t) text is = cc
 text_is_value (UriPrefix t) text is = cc
 text_is_value (Message t) text is = cc
 text_is_value (MessageId t) text is = cc
+text_is_value (Snippet t) text is = cc
 text_is_value c text is = let never : ⊥ = cc in absurd never

@@ -1,5 +1,5 @@
 -- The entry that is made for a result is read as it was meant.
-use Rattle.std.proofs.Common.{◌≡◌, ℕ, ◌<◌, ◌^◌, true, ◌&&◌, not, List, [], ◌∷◌, map, Option, Some, None, option_map, codes, refl, sym, ap, ◌∙◌, arith, Ordering, Less, Equal, Greater, nat_cmp}
+use Rattle.std.proofs.Common.{◌≡◌, ℕ, ◌<◌, ◌^◌, true, ◌&&◌, not, List, [], ◌∷◌, map, Option, Some, None, option_map, codes, refl, sym, ap, ◌∙◌, arith, if◌then◌else◌, Ordering, Less, Equal, Greater, nat_cmp}
 use Rattle.std.specs.Prelude.{Ok, option_and_then, IfSome, is_none, is_some}
 use Rattle.std.specs.Cmp.Lexicographic.{slice_cmp}
 use Rattle.std.specs.Ordering.{match_ordering}
@@ -14,20 +14,22 @@ use Rattle.sarif_model.specs.declared.kinds.Status.TheVariants.{Accepted}
 use Rattle.sarif_model.specs.declared.fault.Fault.TheVariants.{BadEntry}
 use Rattle.sarif_model.specs.declared.record.Record.{Record}
 use Rattle.sarif_entries.specs.declared.condition.Condition.{Condition}
+use Rattle.sarif_entries.specs.declared.condition.Condition.TheVariants.{Snippet}
 use Rattle.sarif_entries.specs.declared.condition.ConditionKind.{ConditionKind}
 use Rattle.sarif_entries.specs.declared.condition.ConditionKind.TheVariants as kinds
 use Rattle.sarif_entries.specs.Condition.{Form, a_text, a_guid, some_pairs, some_texts, all_kinds, name_of, form_of, if_any, unless_empty}
 use Rattle.sarif_entries.specs.declared.fault.FileFault.{FileFault}
-use Rattle.sarif_entries.specs.declared.version.Version.TheVariants.{Fourth}
+use Rattle.sarif_entries.specs.declared.version.Version.TheVariants.{Fourth, Fifth}
 use Rattle.sarif_entries.specs.Entries.{unless_fault, text_or, texts_at, pairs_of, pairs_at, pairs_of_member, are_texts, day_at, day_of_member, is_day, guid_at, guid_or, check_members, read_as, with_pair, with_condition, condition_at, conditions_from, conditions_of, members_of, entry_of}
 use Rattle.sarif_entries.specs.FileFault.{in_entry}
 use Rattle.sarif_model.specs.Written.{list_if_any}
 use Rattle.sarif_model.specs.Guid.{guid_text}
-use Rattle.sarif_accept.specs.Entry.{asked_of, named_by, value_of, texts_into, texts_put, members_from, entry_rows, entry_for}
+use Rattle.sarif_accept.specs.Entry.{asked_of, named_by, value_of, texts_into, texts_put, members_from, entry_rows, entry_for, version_for}
+use Rattle.sarif_accept.specs.NewFile.{has_snippet}
 use Rattle.sarif_accept.specs.Adding.{as_read, entry_read}
 use Rattle.sarif_accept.specs.Until.{HasGuid, IsDated}
 use Rattle.sarif_accept.proofs.EachCondition.{IsMade, IsWritten, is_written, asked_made}
-use Rattle.sarif_accept.proofs.Rows.{found, get_row, text_back, known_rows}
+use Rattle.sarif_accept.proofs.Rows.{are_known, found, get_row, text_back, known_rows}
 
 -- ---- GUIDs
 
@@ -209,13 +211,30 @@ today_known : (today until : Option ℕ) → IsDated today until → not (is_som
 today_known today None is = refl
 today_known today (Some last) is = rw is.2 refl
 
+-- the names of the members that have a value are known to the version of the entry
+pub known_to : (r : Record) (reason : Option (List ℕ)) (until : Option ℕ) → are_known (version_for r) (entry_rows (asked_of r) reason until) ≡ true
+known_to r reason until = by_snippet r.snippet refl
+  where
+    by_snippet : (o : Option (List ℕ)) → r.snippet ≡ o
+        → are_known (if is_some o then Fifth else Fourth) (entry_rows (asked_of r) reason until) ≡ true
+    by_snippet None is = rw is refl
+    by_snippet (Some text) is = refl
+
 pub entry_is : (r : Record) (reason : Option (List ℕ)) (today until : Option ℕ) (n : ℕ) → HasGuid r → IsDated today until
-    → entry_of Fourth today n (entry_for r reason until) ≡ Ok (entry_read r reason until)
+    → entry_of (version_for r) today n (entry_for r reason until) ≡ Ok (entry_read r reason until)
 unfolding entry_of
 entry_is r reason today until n fits is =
     let f : ConditionKind → Option Condition = asked_of r in
     let wrong : FileFault = in_entry n BadEntry in
-    let known : check_members Fourth wrong (entry_for r reason until) ≡ Ok tt =
-    ap (λ b. unless_fault b wrong) (known_rows Fourth (entry_rows f reason until) refl) in
+    let known : check_members (version_for r) wrong (entry_for r reason until) ≡ Ok tt =
+    ap (λ b. unless_fault b wrong) (known_rows (version_for r) (entry_rows f reason until) (known_to r reason until)) in
     let read = members_is f (asked_made r fits) reason until wrong (a_day today until is) in
     rw (known, read, today_known today until is) refl
+
+-- the entry names a snippet if the result has one
+pub has_its_snippet : (r : Record) (reason : Option (List ℕ)) (until : Option ℕ) → has_snippet (entry_for r reason until) ≡ is_some r.snippet
+has_its_snippet r reason until = ap is_some (get_row (codes "snippet") (entry_rows (asked_of r) reason until) refl) ∙ by_option r.snippet
+  where
+    by_option : (o : Option (List ℕ)) → is_some (option_map value_of (option_map Snippet o)) ≡ is_some o
+    by_option None = refl
+    by_option (Some text) = refl

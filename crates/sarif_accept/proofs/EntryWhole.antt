@@ -22,12 +22,12 @@ use Rattle.sarif_entries.specs.Condition.{Form, a_text, a_guid, some_pairs, some
 use Rattle.sarif_entries.specs.declared.entry.Entry.{Entry}
 use Rattle.sarif_entries.specs.declared.fault.FileFault.{FileFault}
 use Rattle.sarif_entries.specs.declared.version.Version.{Version}
-use Rattle.sarif_entries.specs.declared.version.Version.TheVariants.{Fourth}
+use Rattle.sarif_entries.specs.declared.version.Version.TheVariants.{Fifth}
 use Rattle.sarif_entries.specs.Entries.{includes, has_condition, has_member, are_members_of, check_members, unless_fault, read_as, with_condition, condition_at, conditions_from, conditions_of, members_of, entry_of, guid_at, pairs_at, pairs_of_member, are_texts, pairs_of, texts_at, text_or, day_at, day_of_member, status_at}
 use Rattle.sarif_entries.specs.File.{entries_from}
 use Rattle.sarif_entries.specs.FileFault.{in_entry}
 use Rattle.sarif_accept.specs.NewFile.{entry_in}
-use Rattle.sarif_accept.proofs.Kept.{all_known, parts}
+use Rattle.sarif_accept.proofs.Kept.{all_known, fifth_covers, parts}
 
 -- if two steps together succeeded, both did
 pub record Both {A B : Type 0} (a : Result A FileFault) (f : A → Result B FileFault) (y : B) : Type 0 where
@@ -178,19 +178,19 @@ all_stay wrong d e is =
 -- ---- any other name
 
 -- a name that isn't known isn't found
-unknown_on : (o : Ordering) (q l : List ℕ) (e : Data) (found : Option Data) → slice_cmp nat_cmp q l ≡ o → has_member Fourth l ≡ true
-    → has_member Fourth q ≡ false → found ≡ None
+unknown_on : (o : Ordering) (q l : List ℕ) (e : Data) (found : Option Data) → slice_cmp nat_cmp q l ≡ o → has_member Fifth l ≡ true
+    → has_member Fifth q ≡ false → found ≡ None
     → match_ordering o found (Some e) found ≡ None
 unknown_on Less q l e found is known unknown none = none
 unknown_on Equal q l e found is known unknown none =
     let same : q ≡ l = (bytes_eq-Decides q l).0 (sym (is_eq-slice_cmp q l) ∙ ap is_eq is) in
-    absurd (true≢false (sym known ∙ ap (has_member Fourth) (sym same) ∙ unknown))
+    absurd (true≢false (sym known ∙ ap (has_member Fifth) (sym same) ∙ unknown))
 unknown_on Greater q l e found is known unknown none = none
 
-unknown_missing : (q : List ℕ) (ms : Members) → are_members_of Fourth ms ≡ true → has_member Fourth q ≡ false → get_member q ms ≡ None
+unknown_missing : (q : List ℕ) (ms : Members) → are_members_of Fifth ms ≡ true → has_member Fifth q ≡ false → get_member q ms ≡ None
 unknown_missing q no_members all unknown = refl
 unknown_missing q (member l e ms) all unknown =
-    let parts = and_parts (has_member Fourth l) (are_members_of Fourth ms) all in
+    let parts = and_parts (has_member Fifth l) (are_members_of Fifth ms) all in
     unknown_on (slice_cmp nat_cmp q l) q l e (get_member q ms) refl parts.0 unknown (unknown_missing q ms parts.1 unknown)
 
 -- what is found under a name stays, if it does under each known one
@@ -213,28 +213,28 @@ module _ (ms : Members) (stay : MembersStay (object ms)) (q : List ℕ) where
   either false b is f g = g is
 
   condition_stays : (kinds : List ConditionKind) → ConditionsStay (object ms) kinds
-      → list_any (λ kind. bytes_eq q (name_of kind) && includes Fourth (since kind)) kinds ≡ true → StaysHere
+      → list_any (λ kind. bytes_eq q (name_of kind) && includes Fifth (since kind)) kinds ≡ true → StaysHere
   condition_stays [] all is = absurd (true≢false (sym is))
   condition_stays (kind ∷ kinds) all is =
-      either (bytes_eq q (name_of kind) && includes Fourth (since kind)) _ is
-      (λ here. last_of (name_of kind) (and_parts (bytes_eq q (name_of kind)) (includes Fourth (since kind)) here).0 all.0)
+      either (bytes_eq q (name_of kind) && includes Fifth (since kind)) _ is
+      (λ here. last_of (name_of kind) (and_parts (bytes_eq q (name_of kind)) (includes Fifth (since kind)) here).0 all.0)
       (λ more. condition_stays kinds all.1 more)
 
-  known_stays : has_member Fourth q ≡ true → StaysHere
+  known_stays : has_member Fifth q ≡ true → StaysHere
   known_stays is =
-      either (has_condition Fourth q) _ is (λ condition. condition_stays all_kinds stay.conditions condition) (λ is.
+      either (has_condition Fifth q) _ is (λ condition. condition_stays all_kinds stay.conditions condition) (λ is.
       one_of (codes "status") _ is stay.status (λ is.
       one_of (codes "justification") _ is stay.justification (λ is.
       last_of (codes "expires") (and_parts (bytes_eq q (codes "expires")) true is).0 stay.expires)))
 
-any_stays : (ms : Members) → are_members_of Fourth ms ≡ true → MembersStay (object ms) → (q : List ℕ) → Stays (get_member q ms)
+any_stays : (ms : Members) → are_members_of Fifth ms ≡ true → MembersStay (object ms) → (q : List ℕ) → Stays (get_member q ms)
 any_stays ms all stay q =
-    elim (has_member Fourth q) as (λ b. has_member Fourth q ≡ b → Stays (get_member q ms)) [
+    elim (has_member Fifth q) as (λ b. has_member Fifth q ≡ b → Stays (get_member q ms)) [
       | true ↦ λ known. known_stays ms stay q known
       | false ↦ λ unknown. rw (unknown_missing q ms all unknown) refl
     ] refl
 
-object_stays : (ms : Members) → AreMembersOrdered ms → are_members_of Fourth ms ≡ true → MembersStay (object ms) → stripped_members ms ≡ ms
+object_stays : (ms : Members) → AreMembersOrdered ms → are_members_of Fifth ms ≡ true → MembersStay (object ms) → stripped_members ms ≡ ms
 object_stays ms ordered all stay =
     same_members (stripped_members ms) ms (stripped_ordered (object ms) ordered) ordered
     (λ q. get-stripped q (object ms) ordered ∙ any_stays ms all stay q)
@@ -254,7 +254,7 @@ object_whole version wrong (number n) e ordered checked read = let never : ⊥ =
 object_whole version wrong (string s) e ordered checked read = let never : ⊥ = cc in absurd never
 object_whole version wrong (array ds) e ordered checked read = let never : ⊥ = cc in absurd never
 object_whole version wrong (object ms) e ordered checked read =
-    ap object (object_stays ms ordered (all_known version ms (checked_members version wrong ms checked)) (all_stay wrong (object ms) e read))
+    ap object (object_stays ms ordered (all_known version Fifth (fifth_covers version) ms (checked_members version wrong ms checked)) (all_stay wrong (object ms) e read))
 
 -- stripping changes nothing of an entry that is read
 entry_whole : (version : Version) (today : Option ℕ) (n : ℕ) (d : Data) (e : Entry) → IsOrdered d → entry_of version today n d ≡ Ok e → entry_in d ≡ d

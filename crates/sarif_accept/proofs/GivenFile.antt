@@ -1,6 +1,7 @@
 -- The entries of a file that is read, as its new file has them.
 use Rattle.std.proofs.Common.{◌≡◌, ℕ, List, [], map, Option, Some, None, codes, refl, sym, ap, ◌∙◌}
-use Rattle.std.specs.Prelude.{Result, Ok, option_and_then, if◌then◌else◌, Bool, true, false, ok_or}
+use Rattle.std.specs.Prelude.{Result, Ok, Err, nat_eq, option_and_then, if◌then◌else◌, Bool, true, false, ok_or}
+use Rattle.std.specs.Option.{option_map_or}
 use Rattle.std.specs.Str.{is_utf8}
 use Rattle.std.specs.List.{AllByRecursion}
 use Rattle.serde_json.specs.Data.{Data, null, boolean, number, string, array, object, Items, no_items, item, no_members}
@@ -19,13 +20,13 @@ use Rattle.sarif_model.specs.Run.{elements_or_none}
 use Rattle.sarif_entries.specs.declared.entry.Entry.{Entry}
 use Rattle.sarif_entries.specs.declared.fault.FileFault.{FileFault}
 use Rattle.sarif_entries.specs.declared.version.Version.{Version}
-use Rattle.sarif_entries.specs.declared.version.Version.TheVariants.{First}
-use Rattle.sarif_entries.specs.File.{File, entries_from, file_of, file_of_value, check_list, list_or, check_version, check_count}
+use Rattle.sarif_entries.specs.declared.version.Version.TheVariants.{First, Second, Fourth, Fifth}
+use Rattle.sarif_entries.specs.File.{File, entries_from, file_of, file_of_value, check_list, list_or, check_version, check_count, is_fifth, number_in, version_or}
 use Rattle.sarif_accept.specs.NewFile.{file_object, entries_in, entry_in}
 use Rattle.sarif_entries.specs.Given.{file_or_none}
 use Rattle.sarif_accept.proofs.EntryWhole.{both, entries_whole}
 use Rattle.sarif_entries.specs.FileFault.{whole}
-use Rattle.sarif_model.specs.declared.fault.Fault.TheVariants.{NotJson}
+use Rattle.sarif_model.specs.declared.fault.Fault.TheVariants.{NotJson, WrongVersion}
 
 -- a value that is read is ordered
 pub json_ordered : (bytes : List ℕ) (d : Data) → json_of bytes ≡ Some d → IsOrdered d
@@ -58,14 +59,30 @@ checked_list (Some items) ds is = cc
 -- the entries from which the list was read
 pub record Given (d : Data) (file : File) : Type 0 where
   pub version : Version
+  pub fifth : version ≡ Fifth → is_fifth d ≡ true
   pub read : entries_from version file.today 0 (entries_in d) ≡ Ok file.entries
 
 the_file : (a b : File) → ◌≡◌ {A = Result File FileFault} (Ok a) (Ok b) → a ≡ b
 the_file a b e = cc
 
 given_at : (d : Data) (version : Version) (today : Option ℕ) (es : List Entry) (file : File)
+    → (version ≡ Fifth → is_fifth d ≡ true)
     → entries_from version today 0 (entries_in d) ≡ Ok es → record { entries = es; today = today } ≡ file → Given d file
-given_at d version today es file read same = rw (← same) (record { version = version; read = read })
+given_at d version today es file fifth read same = rw (← same) (record { version = version; fifth = fifth; read = read })
+
+-- a value that is read in version 5 is that of a file of version 5
+number_fifth : (o : Option ℕ) (version : Version) → version_or o ≡ Ok version → version ≡ Fifth → option_map_or (λ n. nat_eq n 5) o false ≡ true
+number_fifth None version is same = let never : ⊥ = cc in absurd never
+number_fifth (Some n) version is same = by_tests (nat_eq n 1) (nat_eq n 2) (nat_eq n 4) (nat_eq n 5) is
+  where
+    by_tests : (a b c e : Bool)
+        → (if a then Ok First else (if b then Ok Second else (if c then Ok Fourth else (if e then Ok Fifth else Err (whole WrongVersion))))) ≡ Ok version
+        → e ≡ true
+    by_tests true b c e is = let never : ⊥ = cc in absurd never
+    by_tests false true c e is = let never : ⊥ = cc in absurd never
+    by_tests false false true e is = let never : ⊥ = cc in absurd never
+    by_tests false false false true is = refl
+    by_tests false false false false is = let never : ⊥ = cc in absurd never
 
 read_of_value : (d : Data) (today : Option ℕ) (file : File) → IsOrdered d → file_of_value today d ≡ Ok file → Given d file
 unfolding file_of_value
@@ -79,7 +96,7 @@ read_of_value d today file ordered is =
     entries_whole s2.value today 0 s1.value s4.value
     (rw (← same) (list_ordered (get (codes "suppressions") d) (λ e. get-IsOrdered (codes "suppressions") d e ordered))) s4.first in
     let entries_are : entries_in d ≡ s1.value = ap (map entry_in) same ∙ whole in
-    given_at d s2.value today s4.value file (rw entries_are s4.first) (the_file (record { entries = s4.value; today = today }) file s4.second)
+    given_at d s2.value today s4.value file (number_fifth (number_in d) s2.value s2.first) (rw entries_are s4.first) (the_file (record { entries = s4.value; today = today }) file s4.second)
 
 value_given : (bytes : List ℕ) (d : Data) → ok_or (json_of bytes) (whole NotJson) ≡ Ok d → json_of bytes ≡ Some d
 value_given bytes d is = by_value (json_of bytes) is
@@ -94,7 +111,7 @@ none today = refl
 
 pub entries_given : (given : Option (List ℕ)) (today : Option ℕ) (file : File) → file_or_none given today ≡ Ok file → Given (file_object given) file
 unfolding file_of
-entries_given None today file is = given_at (object no_members) First today [] file (none today) (the_file (record { entries = []; today = today }) file is)
+entries_given None today file is = given_at (object no_members) First today [] file (λ e. let never : ⊥ = cc in absurd never) (none today) (the_file (record { entries = []; today = today }) file is)
 entries_given (Some bytes) today file is =
     let s1 = both (ok_or (json_of (without_mark bytes)) (whole NotJson)) _ file is in
     let found : json_of (without_mark bytes) ≡ Some s1.value = value_given (without_mark bytes) s1.value s1.first in

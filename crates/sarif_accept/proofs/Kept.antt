@@ -1,4 +1,4 @@
--- Entries of a file of an earlier version are the same in version 4.
+-- Entries of a file of an earlier version are the same in the version of the new file.
 use Rattle.std.proofs.Common.{◌≡◌, ℕ, ◌+◌, Bool, true, false, ◌&&◌, ◌||◌, not, List, [], ◌∷◌, ◌++◌, map, Option, Some, None, option_map, bytes_eq, codes, refl, sym, ◌∙◌, if◌then◌else◌, true≢false}
 use Rattle.std.specs.Prelude.{⊤, Result, Ok, Err, filter, option_and_then, ok_or}
 use Rattle.std.proofs.lemmas.Bool.{and_from, and_parts, or_left, or_right}
@@ -15,59 +15,79 @@ use Rattle.sarif_model.specs.declared.record.Record.{Record}
 use Rattle.sarif_entries.specs.declared.entry.Entry.{Entry}
 use Rattle.sarif_entries.specs.declared.fault.FileFault.{FileFault}
 use Rattle.sarif_entries.specs.declared.version.Version.{Version}
-use Rattle.sarif_entries.specs.declared.version.Version.TheVariants.{First, Second, Fourth}
+use Rattle.sarif_entries.specs.declared.version.Version.TheVariants.{First, Second, Fourth, Fifth}
 use Rattle.sarif_entries.specs.Entries.{unless_fault, check_object, check_members, includes, has_condition, has_member, are_members_of, read_as, with_condition, conditions_from, conditions_of, members_of, entry_of, guid_at, guid_or, text_or, texts_at, pairs_at, pairs_of_member, pairs_or, are_texts, pairs_of, day_at, day_of_member, day_or, is_day, status_at, status_or}
-use Rattle.sarif_entries.specs.File.{entries_from}
+use Rattle.sarif_entries.specs.File.{entries_from, is_fifth}
 use Rattle.sarif_entries.specs.FileFault.{in_entry}
 use Rattle.sarif_entries.specs.declared.condition.ConditionKind.{ConditionKind}
 use Rattle.sarif_entries.specs.Condition.{Form, a_text, a_guid, some_pairs, some_texts, all_kinds, name_of, since, form_of, unless_empty}
 use Rattle.sarif_entries.specs.Matching.{is_empty}
-use Rattle.sarif_accept.specs.Entry.{entry_for}
+use Rattle.sarif_accept.specs.Entry.{entry_for, version_for}
+use Rattle.sarif_accept.specs.NewFile.{has_snippet, version_after}
 use Rattle.sarif_accept.specs.Adding.{entry_read}
 use Rattle.sarif_accept.specs.Keeping.{chosen}
 use Rattle.sarif_accept.specs.Until.{HasGuid, IsDated}
-use Rattle.sarif_accept.proofs.EntryRead.{entry_is}
+use Rattle.sarif_accept.proofs.EntryRead.{entry_is, has_its_snippet}
 
 -- ---- members
 
--- version 4 has what any version introduced
-in_fourth : (earlier : Version) → includes Fourth earlier ≡ true
-in_fourth First = refl
-in_fourth Second = refl
-in_fourth Fourth = refl
+-- the second version has what any version introduced that the first has
+abbrev pub Covers : Version → Version → Type 0
+Covers version later = (earlier : Version) → includes version earlier ≡ true → includes later earlier ≡ true
 
-condition_in_fourth : (version : Version) (name : List ℕ) (kinds : List ConditionKind)
-    → list_any (λ kind. bytes_eq name (name_of kind) && includes version (since kind)) kinds ≡ true
-    → list_any (λ kind. bytes_eq name (name_of kind) && includes Fourth (since kind)) kinds ≡ true
-condition_in_fourth version name [] is = is
-condition_in_fourth version name (kind ∷ kinds) is =
-    elim (bytes_eq name (name_of kind) && includes version (since kind)) as
-    (λ b. (bytes_eq name (name_of kind) && includes version (since kind)) ≡ b
-    → (b || list_any (λ kind. bytes_eq name (name_of kind) && includes version (since kind)) kinds) ≡ true
-    → ((bytes_eq name (name_of kind) && includes Fourth (since kind))
-    || list_any (λ kind. bytes_eq name (name_of kind) && includes Fourth (since kind)) kinds) ≡ true) [
-      | true ↦ λ here _. or_left _ _ (and_from _ _ (and_parts (bytes_eq name (name_of kind)) (includes version (since kind)) here).0 (in_fourth (since kind)))
-      | false ↦ λ _ more. or_right _ _ (condition_in_fourth version name kinds more)
-    ] refl is
+-- version 5 has what any version introduced
+pub fifth_covers : (version : Version) → Covers version Fifth
+fifth_covers version First is = refl
+fifth_covers version Second is = refl
+fifth_covers version Fourth is = refl
+fifth_covers version Fifth is = refl
 
-known_by_fourth : (version : Version) (name : List ℕ) → has_member version name ≡ true → has_member Fourth name ≡ true
-known_by_fourth version name is =
-    by_tests (has_condition version name) (has_condition Fourth name) (bytes_eq name (codes "status"))
-    (bytes_eq name (codes "justification")) (bytes_eq name (codes "expires")) (includes version Second)
-    (condition_in_fourth version name all_kinds) is
-  where
-    by_tests : (a b s j e i : Bool) → (a ≡ true → b ≡ true) → (a || (s || (j || (e && i)))) ≡ true → (b || (s || (j || (e && true)))) ≡ true
-    by_tests true b s j e i so is = or_left b _ (so refl)
-    by_tests false b true j e i so is = or_right b _ refl
-    by_tests false b false true e i so is = or_right b _ refl
-    by_tests false b false false true i so is = or_right b _ refl
-    by_tests false b false false false i so is = absurd (true≢false (sym is))
+-- version 4 has all but what version 5 introduced
+pub fourth_covers : (version : Version) → (version ≡ Fifth → ⊥) → Covers version Fourth
+fourth_covers version other First is = refl
+fourth_covers version other Second is = refl
+fourth_covers version other Fourth is = refl
+fourth_covers First other Fifth is = absurd (true≢false (sym is))
+fourth_covers Second other Fifth is = absurd (true≢false (sym is))
+fourth_covers Fourth other Fifth is = absurd (true≢false (sym is))
+fourth_covers Fifth other Fifth is = absurd (other refl)
 
-pub all_known : (version : Version) (ms : Members) → are_members_of version ms ≡ true → are_members_of Fourth ms ≡ true
-all_known version no_members is = refl
-all_known version (member name d ms) is =
-    let both = and_parts (has_member version name) (are_members_of version ms) is in
-    and_from _ _ (known_by_fourth version name both.0) (all_known version ms both.1)
+module _ (version later : Version) (covers : Covers version later) where
+  condition_covered : (name : List ℕ) (kinds : List ConditionKind)
+      → list_any (λ kind. bytes_eq name (name_of kind) && includes version (since kind)) kinds ≡ true
+      → list_any (λ kind. bytes_eq name (name_of kind) && includes later (since kind)) kinds ≡ true
+  condition_covered name [] is = is
+  condition_covered name (kind ∷ kinds) is =
+      elim (bytes_eq name (name_of kind) && includes version (since kind)) as
+      (λ b. (bytes_eq name (name_of kind) && includes version (since kind)) ≡ b
+      → (b || list_any (λ kind. bytes_eq name (name_of kind) && includes version (since kind)) kinds) ≡ true
+      → ((bytes_eq name (name_of kind) && includes later (since kind))
+      || list_any (λ kind. bytes_eq name (name_of kind) && includes later (since kind)) kinds) ≡ true) [
+        | true ↦ λ here _.
+            let both = and_parts (bytes_eq name (name_of kind)) (includes version (since kind)) here in
+            or_left _ _ (and_from _ _ both.0 (covers (since kind) both.1))
+        | false ↦ λ _ more. or_right _ _ (condition_covered name kinds more)
+      ] refl is
+
+  member_covered : (name : List ℕ) → has_member version name ≡ true → has_member later name ≡ true
+  member_covered name is =
+      by_tests (has_condition version name) (has_condition later name) (bytes_eq name (codes "status"))
+      (bytes_eq name (codes "justification")) (bytes_eq name (codes "expires")) (includes version Second) (includes later Second)
+      (condition_covered name all_kinds) (covers Second) is
+    where
+      by_tests : (a b s j e i k : Bool) → (a ≡ true → b ≡ true) → (i ≡ true → k ≡ true) → (a || (s || (j || (e && i)))) ≡ true
+          → (b || (s || (j || (e && k)))) ≡ true
+      by_tests true b s j e i k so too is = or_left b _ (so refl)
+      by_tests false b true j e i k so too is = or_right b _ refl
+      by_tests false b false true e i k so too is = or_right b _ refl
+      by_tests false b false false true i k so too is = or_right b _ (too is)
+      by_tests false b false false false i k so too is = absurd (true≢false (sym is))
+
+  pub all_known : (ms : Members) → are_members_of version ms ≡ true → are_members_of later ms ≡ true
+  all_known no_members is = refl
+  all_known (member name d ms) is =
+      let both = and_parts (has_member version name) (are_members_of version ms) is in
+      and_from _ _ (member_covered name both.0) (all_known ms both.1)
 
 -- ---- if there is no error, it makes no difference which error would be returned
 
@@ -202,28 +222,31 @@ unless_gives : (b : Bool) (v w : FileFault) → Gives (unless_fault b v) (unless
 unless_gives true v w = refl
 unless_gives false v w = tt
 
-checked_gives : (version : Version) (v w : FileFault) (d : Data) → Gives (check_members version v d) (check_members Fourth w d)
-checked_gives version v w d = by_members (as_object d)
+checked_gives : (version later : Version) → Covers version later → (v w : FileFault) (d : Data)
+    → Gives (check_members version v d) (check_members later w d)
+checked_gives version later covers v w d = by_members (as_object d)
   where
     by_test : (b c : Bool) → (b ≡ true → c ≡ true) → Gives (unless_fault b v) (unless_fault c w)
     by_test true c so = rw (so refl) refl
     by_test false c so = tt
 
-    by_members : (o : Option Members) → Gives (check_object version v o) (check_object Fourth w o)
+    by_members : (o : Option Members) → Gives (check_object version v o) (check_object later w o)
     by_members None = tt
-    by_members (Some ms) = by_test (are_members_of version ms) (are_members_of Fourth ms) (all_known version ms)
+    by_members (Some ms) = by_test (are_members_of version ms) (are_members_of later ms) (all_known version later covers ms)
 
--- an entry of a file of any version is the same in version 4, at any place
-entry_gives : (version : Version) (today : Option ℕ) (n m : ℕ) (d : Data) → Gives (entry_of version today n d) (entry_of Fourth today m d)
+-- an entry of a file is the same in a version that has all that the file's has, at any place
+entry_gives : (version later : Version) → Covers version later → (today : Option ℕ) (n m : ℕ) (d : Data)
+    → Gives (entry_of version today n d) (entry_of later today m d)
 unfolding entry_of
-entry_gives version today n m d =
-    then_gives _ _ _ _ (checked_gives version (in_entry n BadEntry) (in_entry m BadEntry) d) (λ _.
+entry_gives version later covers today n m d =
+    then_gives _ _ _ _ (checked_gives version later covers (in_entry n BadEntry) (in_entry m BadEntry) d) (λ _.
     then_gives _ _ _ _ (members_gives (in_entry n BadEntry) (in_entry m BadEntry) d) (λ e.
     then_gives _ _ _ _ (unless_gives (not (is_empty e.conditions)) (in_entry n EmptyMatch) (in_entry m EmptyMatch)) (λ _.
     then_gives _ _ _ _ (unless_gives (not (is_some e.expires && is_none today)) (in_entry n NeedsToday) (in_entry m NeedsToday)) (λ _. refl))))
 
-pub entry_kept : (version : Version) (today : Option ℕ) (n m : ℕ) (d : Data) (e : Entry) → entry_of version today n d ≡ Ok e → entry_of Fourth today m d ≡ Ok e
-entry_kept version today n m d e is = give_it _ _ e (entry_gives version today n m d) is
+pub entry_kept : (version later : Version) → Covers version later → (today : Option ℕ) (n m : ℕ) (d : Data) (e : Entry)
+    → entry_of version today n d ≡ Ok e → entry_of later today m d ≡ Ok e
+entry_kept version later covers today n m d e is = give_it _ _ e (entry_gives version later covers today n m d) is
 
 -- ---- lists of entries
 
@@ -260,37 +283,86 @@ parts version today n d ds es is =
     ] refl is
 
 -- the entries that are kept are read as they were
-pub kept_read : (version : Version) (today : Option ℕ) (keep : Entry → Bool) (n m : ℕ) (ds : List Data) (es : List Entry)
+pub kept_read : (version later : Version) → Covers version later → (today : Option ℕ) (keep : Entry → Bool) (n m : ℕ)
+    (ds : List Data) (es : List Entry)
     → entries_from version today n ds ≡ Ok es
-    → entries_from Fourth today m (chosen (map keep es) ds) ≡ Ok (filter keep es)
+    → entries_from later today m (chosen (map keep es) ds) ≡ Ok (filter keep es)
 unfolding entries_from
-kept_read version today keep n m [] es is = let none : [] ≡ es = ok_same [] es is in rw (← none) refl
-kept_read version today keep n m (d ∷ ds) es is =
+kept_read version later covers today keep n m [] es is = let none : [] ≡ es = ok_same [] es is in rw (← none) refl
+kept_read version later covers today keep n m (d ∷ ds) es is =
     let p = parts version today n d ds es is in
-    let later : (m : ℕ) → entries_from Fourth today m (chosen (map keep p.rest) ds) ≡ Ok (filter keep p.rest) =
-    λ m. kept_read version today keep (n + 1) m ds p.rest p.rest_is in
+    let more : (m : ℕ) → entries_from later today m (chosen (map keep p.rest) ds) ≡ Ok (filter keep p.rest) =
+    λ m. kept_read version later covers today keep (n + 1) m ds p.rest p.rest_is in
     rw p.whole
     (elim (keep p.first) as
-    (λ b. entries_from Fourth today m (chosen (b ∷ map keep p.rest) (d ∷ ds))
+    (λ b. entries_from later today m (chosen (b ∷ map keep p.rest) (d ∷ ds))
     ≡ Ok (if b then p.first ∷ filter keep p.rest else filter keep p.rest)) [
-      | true ↦ one_ok Fourth today m d (chosen (map keep p.rest) ds) p.first (filter keep p.rest)
-          (entry_kept version today n m d p.first p.first_is) (later (m + 1))
-      | false ↦ later m
+      | true ↦ one_ok later today m d (chosen (map keep p.rest) ds) p.first (filter keep p.rest)
+          (entry_kept version later covers today n m d p.first p.first_is) (more (m + 1))
+      | false ↦ more m
     ])
 
 -- entries that are read at any position, after others
-pub read_behind : (today : Option ℕ) (n : ℕ) (ds more : List Data) (es others : List Entry) → entries_from Fourth today n ds ≡ Ok es
-    → ((m : ℕ) → entries_from Fourth today m more ≡ Ok others) → entries_from Fourth today n (ds ++ more) ≡ Ok (es ++ others)
+pub read_behind : (version : Version) (today : Option ℕ) (n : ℕ) (ds more : List Data) (es others : List Entry)
+    → entries_from version today n ds ≡ Ok es
+    → ((m : ℕ) → entries_from version today m more ≡ Ok others) → entries_from version today n (ds ++ more) ≡ Ok (es ++ others)
 unfolding entries_from
-read_behind today n [] more es others is rest = let none : [] ≡ es = ok_same [] es is in rw (← none) (rest n)
-read_behind today n (d ∷ ds) more es others is rest =
-    let p = parts Fourth today n d ds es is in
-    rw p.whole (one_ok Fourth today n d (ds ++ more) p.first (p.rest ++ others) p.first_is (read_behind today (n + 1) ds more p.rest others p.rest_is rest))
+read_behind version today n [] more es others is rest = let none : [] ≡ es = ok_same [] es is in rw (← none) (rest n)
+read_behind version today n (d ∷ ds) more es others is rest =
+    let p = parts version today n d ds es is in
+    rw p.whole
+    (one_ok version today n d (ds ++ more) p.first (p.rest ++ others) p.first_is
+    (read_behind version today (n + 1) ds more p.rest others p.rest_is rest))
 
 -- entries that are made for results are read as they were meant, at any place
-pub made_read : (rs : List Record) (reason : Option (List ℕ)) (today until : Option ℕ) (m : ℕ) → AllByRecursion HasGuid rs → IsDated today until
-    → entries_from Fourth today m (map (λ r. entry_for r reason until) rs) ≡ Ok (map (λ r. entry_read r reason until) rs)
+pub made_read : (version : Version) (rs : List Record) (reason : Option (List ℕ)) (today until : Option ℕ) (m : ℕ)
+    → AllByRecursion (λ r. Covers (version_for r) version) rs → AllByRecursion HasGuid rs → IsDated today until
+    → entries_from version today m (map (λ r. entry_for r reason until) rs) ≡ Ok (map (λ r. entry_read r reason until) rs)
 unfolding entries_from
-made_read [] reason today until m fits is = refl
-made_read (r ∷ rs) reason today until m fits is =
-    one_ok Fourth today m _ _ _ _ (entry_is r reason today until m fits.0 is) (made_read rs reason today until (m + 1) fits.1 is)
+made_read version [] reason today until m allowed fits is = refl
+made_read version (r ∷ rs) reason today until m allowed fits is =
+    one_ok version today m _ _ _ _
+    (entry_kept (version_for r) version allowed.0 today m m _ _ (entry_is r reason today until m fits.0 is))
+    (made_read version rs reason today until (m + 1) allowed.1 fits.1 is)
+
+-- ---- the version of the new file
+
+-- this version covers the entry of each of these results
+abbrev AllCovered : Version → List Record → Type 0
+AllCovered version rs = AllByRecursion (λ r. Covers (version_for r) version) rs
+
+all_in_fifth : (rs : List Record) → AllCovered Fifth rs
+all_in_fifth [] = tt
+all_in_fifth (r ∷ rs) = (fifth_covers (version_for r), all_in_fifth rs)
+
+all_in_fourth : (rs : List Record) (reason : Option (List ℕ)) (until : Option ℕ)
+    → list_any has_snippet (map (λ r. entry_for r reason until) rs) ≡ false → AllCovered Fourth rs
+all_in_fourth [] reason until none = tt
+all_in_fourth (r ∷ rs) reason until none =
+    (by_snippet (is_some r.snippet) (sym (has_its_snippet r reason until)) (neither _ _ none).0, all_in_fourth rs reason until (neither _ _ none).1)
+  where
+    neither : (a b : Bool) → (a || b) ≡ false → (a ≡ false) × (b ≡ false)
+    neither true b is = absurd (true≢false is)
+    neither false b is = (refl, is)
+
+    by_snippet : (b : Bool) → b ≡ has_snippet (entry_for r reason until) → has_snippet (entry_for r reason until) ≡ false
+        → Covers (if b then Fifth else Fourth) Fourth
+    by_snippet true same none = absurd (true≢false (same ∙ none))
+    by_snippet false same none = fourth_covers Fourth (λ e. let never : ⊥ = cc in never)
+
+-- the version of the new file has what the old file's has, and what the entries that are added have
+pub record Fits (old new : Version) (rs : List Record) : Type 0 where
+  pub covers : Covers old new
+  pub allowed : AllCovered new rs
+
+pub new_fits : (d : Data) (version : Version) (rs : List Record) (reason : Option (List ℕ)) (until : Option ℕ)
+    → (version ≡ Fifth → is_fifth d ≡ true) → Fits version (version_after d (map (λ r. entry_for r reason until) rs)) rs
+new_fits d version rs reason until fifth =
+    by_tests (is_fifth d) (list_any has_snippet (map (λ r. entry_for r reason until) rs)) fifth (λ none. all_in_fourth rs reason until none)
+  where
+    by_tests : (a b : Bool) → (version ≡ Fifth → a ≡ true) → (b ≡ false → AllCovered Fourth rs)
+        → Fits version (if a || b then Fifth else Fourth) rs
+    by_tests true b fifth fourth = record { covers = fifth_covers version; allowed = all_in_fifth rs }
+    by_tests false true fifth fourth = record { covers = fifth_covers version; allowed = all_in_fifth rs }
+    by_tests false false fifth fourth =
+        record { covers = fourth_covers version (λ e. true≢false (sym (fifth e))); allowed = fourth refl }

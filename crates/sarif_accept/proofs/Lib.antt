@@ -22,6 +22,7 @@ pub mod NoFraction
 pub mod RenewedFile
 pub mod Rows
 pub mod SameConditions
+pub mod SameVersion
 pub mod Shallow
 pub mod Staying
 pub mod Taken

@@ -31,6 +31,6 @@ new_file_read how counts given today file rs states text is fits dated few reads
     let from = entries_given given today file is in
     let same : file.today ≡ today = today_given given today file is in
     let dated_here : IsDated file.today how.renewal.until = rw same dated in
-    let read = file_read how counts file rs states from.version (entries_in (file_object given))
-    (others_in (file_object given)) text from.read fits dated_here few reads in
+    let read = file_read how counts file rs states from.version (file_object given)
+    (entries_in (file_object given)) (others_in (file_object given)) text from.fifth from.read fits dated_here few reads in
     ap (file_of text) (sym same) ∙ read

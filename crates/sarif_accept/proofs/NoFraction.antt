@@ -13,7 +13,8 @@ use Rattle.sarif_model.specs.declared.record.Record.{Record}
 use Rattle.sarif_model.specs.Run.{elements_or_none}
 use Rattle.sarif_accept.specs.Entry.{members_from, entry_rows, entry_for, asked_of}
 use Rattle.sarif_accept.specs.Keeping.{chosen}
-use Rattle.sarif_accept.specs.NewFile.{stripped_in, entry_in, entries_in, others_in, entries_after, new_file}
+use Rattle.sarif_entries.specs.File.{number_of}
+use Rattle.sarif_accept.specs.NewFile.{stripped_in, entry_in, entries_in, others_in, entries_after, new_file, version_after}
 use Rattle.sarif_accept.proofs.EveryRow.{IsKept, IsOfEach, entry_keeps, texts_keep}
 
 -- ---- what is stripped
@@ -77,9 +78,10 @@ made_whole (r ∷ rs) reason until =
 pub new_whole : (d : Data) (kept : List Bool) (rs : List Record) (reason : Option (List ℕ)) (until : Option ℕ)
     → has_float (new_file d kept (map (λ r. entry_for r reason until) rs)) ≡ false
 new_whole d kept rs reason until =
+    let version = number (unsigned (number_of (version_after d (map (λ r. entry_for r reason until) rs)))) in
     put_whole (codes "suppressions") (array (items_of (entries_after d kept (map (λ r. entry_for r reason until) rs))))
-    (put (codes "version") (number (unsigned 4)) (others_in d))
+    (put (codes "version") version (others_in d))
     (both_whole (chosen kept (entries_in d)) (map (λ r. entry_for r reason until) rs)
     (chosen_whole kept (entries_in d) (objects_whole (elements_or_none (option_and_then as_array (get (codes "suppressions") d)))))
     (made_whole rs reason until))
-    (put_whole (codes "version") (number (unsigned 4)) (others_in d) refl (in_whole (without_member (codes "suppressions") d)))
+    (put_whole (codes "version") version (others_in d) refl (in_whole (without_member (codes "suppressions") d)))

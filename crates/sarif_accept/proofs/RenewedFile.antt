@@ -1,6 +1,7 @@
 -- The JSON of a new suppression file is read again.
-use Rattle.std.proofs.Common.{◌≡◌, ℕ, ◌<◌, ◌≤◌, Bool, true, false, List, [], ◌∷◌, ◌++◌, length, map, Bor, Option, Some, None, refl, sym, subst, inl, inr, ◌⊎◌, ◌+◌, ap, ap₂, ◌∙◌, arith, length-append, if◌then◌else◌}
-use Rattle.std.specs.Prelude.{nat_lt, unwrap_or}
+use Rattle.std.proofs.Common.{◌≡◌, ℕ, ◌<◌, ◌≤◌, Bool, true, false, List, [], ◌∷◌, ◌++◌, length, map, Bor, Option, Some, None, refl, sym, subst, inl, inr, ◌⊎◌, ◌||◌, ◌+◌, ap, ap₂, ◌∙◌, arith, length-append, if◌then◌else◌}
+use Rattle.std.specs.List.{list_any}
+use Rattle.std.specs.Prelude.{is_some, nat_lt, unwrap_or}
 use Rattle.std.specs.Str.{is_utf8}
 use Rattle.std.proofs.lemmas.List.{length-map}
 use Rattle.std.proofs.lemmas.Bool.Decides.{nat_tests}
@@ -18,10 +19,14 @@ use Rattle.sarif_model.specs.declared.merge_fault.Cause.TheVariants.{Of, TooLong
 use Rattle.sarif_model.specs.declared.record.Record.{Record}
 use Rattle.sarif_model.specs.declared.refusal.Refusal.{Refusal}
 use Rattle.sarif_model.specs.declared.refusal.Refusal.TheVariants as refusal
-use Rattle.sarif_accept.specs.NewFile.{entries_in, file_object, file_text}
+use Rattle.sarif_entries.specs.declared.version.Version.{Version}
+use Rattle.sarif_entries.specs.declared.version.Version.TheVariants.{Fourth, Fifth}
+use Rattle.sarif_entries.specs.File.{is_fifth}
+use Rattle.sarif_accept.specs.NewFile.{entries_in, file_object, file_text, has_snippet, version_after}
 use Rattle.sarif_accept.specs.Entry.{entry_for}
 use Rattle.sarif_accept.specs.Keeping.{chosen}
 use Rattle.sarif_accept.specs.Renewed.{renewed_entries, renewed_file, renewal_cause}
+use Rattle.sarif_accept.proofs.EntryRead.{has_its_snippet}
 use Rattle.sarif_accept.proofs.NoFraction.{new_whole}
 use Rattle.sarif_accept.specs.Internal.Weighing.{lines_in, weights_of}
 use Rattle.sarif_accept.proofs.LineWidths.{file_lines}
@@ -49,6 +54,19 @@ pub all_entries : (given : Option (List ℕ)) (kept : List Bool) (xs : List (Bor
     → old ≡ chosen kept (entries_in (file_object given))
     → new ≡ old ++ map (λ r. entry_for r.now renewal.reason renewal.until) xs → new ≡ renewed_entries given kept (map (λ r. r.now) xs) renewal
 all_entries given kept xs renewal old new is more = more ∙ ap₂ (λ a b. a ++ b) is (entries_made renewal.reason renewal.until xs)
+
+-- the version of the new file, by the results for which entries are added
+any_snippet : (xs : List (Bor Record)) (reason : Option (List ℕ)) (until : Option ℕ)
+    → list_any (λ r. is_some r.now.snippet) xs ≡ list_any has_snippet (map (λ r. entry_for r reason until) (map (λ r. r.now) xs))
+any_snippet [] reason until = refl
+any_snippet (x ∷ xs) reason until = ap₂ (λ a b. a || b) (sym (has_its_snippet x.now reason until)) (any_snippet xs reason until)
+
+pub version_is : (fifth : Bool) (d : Data) (xs : List (Bor Record)) (renewal : Renewal) (version : Version) → fifth ≡ is_fifth d
+    → version ≡ (if fifth || list_any (λ r. is_some r.now.snippet) xs then Fifth else Fourth)
+    → version ≡ version_after d (map (λ r. entry_for r renewal.reason renewal.until) (map (λ r. r.now) xs))
+version_is fifth d xs renewal version is chosen =
+    chosen ∙ ap (λ b. if b || list_any (λ r. is_some r.now.snippet) xs then Fifth else Fourth) is
+    ∙ ap (λ b. if is_fifth d || b then Fifth else Fourth) (any_snippet xs renewal.reason renewal.until)
 
 -- as many entries as are kept and are added
 pub counted : {A : Type 0} (f : A → Data) (items : List A) (xs : List (Bor Record)) (given : Option (List ℕ)) (kept : List Bool)

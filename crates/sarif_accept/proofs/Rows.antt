@@ -1,6 +1,6 @@
 -- What is found under a name among rows.
-use Rattle.std.proofs.Common.{◌≡◌, ℕ, Bool, true, false, ◌&&◌, not, List, [], ◌∷◌, Option, Some, None, option_map, bytes_eq, refl, sym, ap, ◌∙◌, Ordering, Less, Equal, Greater, nat_cmp, true≢false, if◌then◌else◌}
-use Rattle.std.specs.Prelude.{Ok, option_and_then}
+use Rattle.std.proofs.Common.{◌≡◌, ℕ, Bool, true, false, ◌&&◌, ◌||◌, not, List, [], ◌∷◌, Option, Some, None, option_map, bytes_eq, refl, sym, ap, ◌∙◌, Ordering, Less, Equal, Greater, nat_cmp, true≢false, if◌then◌else◌}
+use Rattle.std.specs.Prelude.{Ok, is_none, option_and_then}
 use Rattle.std.specs.Cmp.Lexicographic.{slice_cmp}
 use Rattle.std.specs.Ordering.{match_ordering}
 use Rattle.std.proofs.lemmas.Bool.{and_from, and_parts}
@@ -67,11 +67,11 @@ pub text_back : {E : Type 0} (wrong : E) (o : Option (List ℕ)) → of_kind wro
 text_back wrong None = refl
 text_back wrong (Some text) = refl
 
--- ---- members all of whose names are known
+-- ---- members all of whose names are known, where they have a value
 
 abbrev pub are_known : Version → List Row → Bool
 are_known version [] = true
-are_known version (row ∷ rows) = has_member version row.0 && are_known version rows
+are_known version (row ∷ rows) = (has_member version row.0 || is_none row.1) && are_known version rows
 
 put_on : (o : Ordering) (version : Version) (k l : List ℕ) (d e : Data) (ms : Members) → slice_cmp nat_cmp k l ≡ o
     → has_member version k ≡ true → are_members_of version (member l e ms) ≡ true
@@ -90,9 +90,14 @@ put_known version k d (member l e ms) has all =
     put_on (slice_cmp nat_cmp k l) version k l d e ms refl has all
     (put_known version k d ms has (and_parts (has_member version l) (are_members_of version ms) all).1)
 
+-- a row with a value has a name that is known
+valued : (b : Bool) → (b || false) ≡ true → b ≡ true
+valued true is = refl
+valued false is = is
+
 pub known_rows : (version : Version) (rows : List Row) → are_known version rows ≡ true → are_members_of version (members_from rows) ≡ true
 known_rows version [] e = refl
-known_rows version ((k, None) ∷ rows) e = known_rows version rows (and_parts (has_member version k) (are_known version rows) e).1
+known_rows version ((k, None) ∷ rows) e = known_rows version rows (and_parts (has_member version k || true) (are_known version rows) e).1
 known_rows version ((k, Some d) ∷ rows) e =
-    let both = and_parts (has_member version k) (are_known version rows) e in
-    put_known version k d (members_from rows) both.0 (known_rows version rows both.1)
+    let both = and_parts (has_member version k || false) (are_known version rows) e in
+    put_known version k d (members_from rows) (valued (has_member version k) both.0) (known_rows version rows both.1)

@@ -15,7 +15,9 @@ use Rattle.sarif_model.specs.declared.record.Record.{Record}
 use Rattle.sarif_model.specs.Run.{elements_or_none}
 use Rattle.sarif_accept.specs.Entry.{members_from, texts_put, entry_rows, entry_for, asked_of}
 use Rattle.sarif_accept.specs.Keeping.{chosen}
-use Rattle.sarif_accept.specs.NewFile.{stripped_in, entry_in, entries_in, others_in, file_with, new_file}
+use Rattle.sarif_entries.specs.declared.version.Version.{Version}
+use Rattle.sarif_entries.specs.File.{number_of}
+use Rattle.sarif_accept.specs.NewFile.{stripped_in, entry_in, entries_in, others_in, file_with, new_file, version_after}
 use Rattle.sarif_accept.proofs.EveryRow.{IsKept, IsOfEach, entry_keeps, texts_keep}
 
 -- ---- stripping and leaving out
@@ -172,12 +174,12 @@ made_within (r ∷ rs) reason until n room =
 
 -- ---- the new file
 
-file_within : (entries : List Data) (ms : Members) (n : ℕ) → AreWithin n entries → members_depth ms ≤ suc n → depth (file_with entries ms) ≤ suc (suc n)
-file_within entries ms n few rest =
-    let four : members_depth (put (codes "version") (number (unsigned 4)) ms) ≤ suc n =
-    put_depth (codes "version") (number (unsigned 4)) ms (suc n) (omega arith) rest in
-    let all : members_depth (put (codes "suppressions") (array (items_of entries)) (put (codes "version") (number (unsigned 4)) ms)) ≤ suc
-    n = put_depth (codes "suppressions") (array (items_of entries)) _ (suc n) (omega (arith, few)) four in
+file_within : (version : Version) (entries : List Data) (ms : Members) (n : ℕ) → AreWithin n entries → members_depth ms ≤ suc n
+    → depth (file_with version entries ms) ≤ suc (suc n)
+file_within version entries ms n few rest =
+    let value = number (unsigned (number_of version)) in
+    let four : members_depth (put (codes "version") value ms) ≤ suc n = put_depth (codes "version") value ms (suc n) (omega arith) rest in
+    let all : members_depth (put (codes "suppressions") (array (items_of entries)) (put (codes "version") value ms)) ≤ suc n = put_depth (codes "suppressions") (array (items_of entries)) _ (suc n) (omega (arith, few)) four in
     omega (arith, all)
 
 pub new_within : (d : Data) (kept : List Bool) (rs : List Record) (reason : Option (List ℕ)) (until : Option ℕ) → depth d ≤ max_depth
@@ -186,6 +188,6 @@ new_within d kept rs reason until shallow =
     let entries : AreWithin 125 (entries_in d) = listed_within 124 (get (codes "suppressions") d) (get_within (codes "suppressions") d 126 shallow) in
     let others : members_depth (others_in d) ≤ 126 =
     in_depth (without_member (codes "suppressions") d) 126 (let h = without_member_depth (codes "suppressions") d in omega (arith, h, shallow)) in
-    file_within _ (others_in d) 125
+    file_within (version_after d (map (λ r. entry_for r reason until) rs)) _ (others_in d) 125
     (both_within 125 (chosen kept (entries_in d)) (map (λ r. entry_for r reason until) rs) (chosen_within 125 kept (entries_in d) entries)
     (made_within rs reason until 125 (omega arith))) others

@@ -24,7 +24,8 @@ use Rattle.sarif_entries.specs.Condition.{all_kinds, text_of}
 use Rattle.sarif_entries.specs.Entries.{with_condition}
 use Rattle.sarif_accept.specs.Entry.{asked_of, named_by, value_of, rows_of, entry_for, entry_rows, members_from}
 use Rattle.sarif_accept.proofs.EachCondition.{text_is_value}
-use Rattle.sarif_accept.specs.NewFile.{entries_in, file_object, file_text, others_in}
+use Rattle.sarif_entries.specs.File.{number_of}
+use Rattle.sarif_accept.specs.NewFile.{entries_in, file_object, file_text, others_in, version_after}
 use Rattle.sarif_accept.specs.Keeping.{chosen}
 use Rattle.sarif_accept.specs.Renewed.{renewed_entries, renewed_file}
 use Rattle.sarif_accept.specs.Internal.Weighing.{weight_if, weight_in, weight_of, weights_of}
@@ -248,7 +249,7 @@ pub file_weight : (given : Option (List ℕ)) (kept : List Bool) (added : List R
 file_weight given kept added renewal =
     let made = map (λ r. entry_for r renewal.reason renewal.until) added in
     let all = renewed_entries given kept added renewal in
-    let rest = put (codes "version") (value.number (value.unsigned 4)) (others_in (file_object given)) in
+    let rest = put (codes "version") (value.number (value.unsigned (number_of (version_after (file_object given) made)))) (others_in (file_object given)) in
     let ms = put (codes "suppressions") (value.array (items_of all)) rest in
     let text = json_tokens (outline (value.object ms)) in
     let printed : value_weight (value.object ms) ≤ length (pretty text) = weighed (value.object ms) in

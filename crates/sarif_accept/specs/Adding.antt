@@ -2,6 +2,8 @@
 use Rattle.std.specs.Prelude.{ℕ, Bool, not, ◌&&◌, List, [], ◌∷◌, ◌++◌, map, filter, Option, if◌then◌else◌}
 use Rattle.std.specs.Cmp.Lexicographic.{pointwise}
 use Rattle.std.specs.List.{list_any, list_all}
+use Rattle.sarif_match.specs.Seen.{as_matched}
+use Rattle.sarif_match.specs.declared.version.MatchingVersion.{MatchingVersion}
 use Rattle.sarif_model.specs.declared.kinds.State.{State}
 use Rattle.sarif_model.specs.declared.kinds.Status.TheVariants.{Accepted}
 use Rattle.sarif_model.specs.declared.record.Record.{Record}
@@ -63,15 +65,17 @@ once_each before (r ∷ rs) =
 
 -- ---- the file as it is read again
 
--- how the file is renewed, and whether a tool was heard
+-- how the file is renewed, by which version results are matched, and whether a tool was heard
 pub record How : Type 0 where
   pub renewal : Renewal
+  pub matching : MatchingVersion
   pub heard : Heard
 
--- the results for which entries are added
+-- the results for which entries are added, as the version of matching sees them
 abbrev pub added_for : How → MayBeHit → File → List Record → List State → List Record
 added_for how counts file rs states =
-    if how.renewal.accept then once_each [] (accepted_among counts file rs states) else []
+    if how.renewal.accept
+    then once_each [] (map (as_matched how.matching) (accepted_among counts file rs states)) else []
 
 -- a condition as it is read: fingerprints are in the order of their names
 abbrev pub as_read : Condition → Condition

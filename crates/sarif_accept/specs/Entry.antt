@@ -1,15 +1,17 @@
 -- The entry of the suppression file that accepts a result: it names what a baseline would match with the same finding
 -- in the same file.
-use Rattle.std.specs.Prelude.{ℕ, Bool, true, false, ◌&&◌, List, [], ◌∷◌, map, Option, Some, None, is_none, option_map, codes, if◌then◌else◌}
+use Rattle.std.specs.Prelude.{ℕ, Bool, true, false, ◌&&◌, List, [], ◌∷◌, map, Option, Some, None, is_none, is_some, option_map, codes, if◌then◌else◌}
 use Rattle.serde_json.specs.Data.{Data, number, unsigned, string, array, object, Members, no_members, put}
 use Rattle.serde_json.specs.View.{items_of}
 use Rattle.sarif_model.specs.Guid.{guid_text}
 use Rattle.sarif_model.specs.Written.{Row, with_value}
 use Rattle.sarif_model.specs.declared.record.Record.{Record}
 use Rattle.sarif_entries.specs.declared.condition.Condition.{Condition}
-use Rattle.sarif_entries.specs.declared.condition.Condition.TheVariants.{Tool, RuleId, Uri, UriPrefix, Guid, Fingerprints, PartialFingerprints, Message, MessageId, MessageArguments}
+use Rattle.sarif_entries.specs.declared.condition.Condition.TheVariants.{Tool, RuleId, Uri, UriPrefix, Guid, Fingerprints, PartialFingerprints, Message, MessageId, MessageArguments, Snippet}
 use Rattle.sarif_entries.specs.declared.condition.ConditionKind.{ConditionKind}
 use Rattle.sarif_entries.specs.declared.condition.ConditionKind.TheVariants as kinds
+use Rattle.sarif_entries.specs.declared.version.Version.{Version}
+use Rattle.sarif_entries.specs.declared.version.Version.TheVariants.{Fourth, Fifth}
 use Rattle.sarif_entries.specs.Condition.{all_kinds, name_of, own_of}
 use Rattle.sarif_entries.specs.Entries.{with_condition}
 use Rattle.sarif_entries.specs.Matching.{is_empty}
@@ -24,8 +26,8 @@ has_no_guid_or_full r = is_none r.guid && is_empty r.full
 abbrev pub is_unmarked : Record → Bool
 is_unmarked r = has_no_guid_or_full r && is_empty r.partial
 
--- whether the entry names what the result has of that kind: its tool and its rule, and besides what it has first of
--- its GUID, its fingerprints, its partial fingerprints and its message, the last three with its URI
+-- whether the entry names what the result has of that kind: its tool, its rule and its snippet, and besides what it
+-- has first of its GUID, its fingerprints, its partial fingerprints and its message, the last three with its URI
 abbrev pub is_asked : ConditionKind → Record → Bool
 is_asked kinds.Tool r = true
 is_asked kinds.RuleId r = true
@@ -37,6 +39,7 @@ is_asked kinds.PartialFingerprints r = has_no_guid_or_full r
 is_asked kinds.Message r = is_unmarked r
 is_asked kinds.MessageId r = is_unmarked r
 is_asked kinds.MessageArguments r = is_unmarked r
+is_asked kinds.Snippet r = true
 
 -- the condition of that kind that the entry names, if it names one
 abbrev pub asked_of : Record → ConditionKind → Option Condition
@@ -78,6 +81,7 @@ value_of (PartialFingerprints pairs) = object (texts_put pairs)
 value_of (Message text) = string text
 value_of (MessageId id) = string id
 value_of (MessageArguments texts) = array (items_of (map string texts))
+value_of (Snippet text) = string text
 
 -- the members of the conditions of these kinds
 abbrev pub rows_of : (ConditionKind → Option Condition) → List ConditionKind → List Row
@@ -94,3 +98,7 @@ entry_rows f reason until =
 -- the entry that accepts the result
 abbrev pub entry_for : Record → Option (List ℕ) → Option ℕ → Data
 entry_for r reason until = object (members_from (entry_rows (asked_of r) reason until))
+
+-- the first version of the file that may have it: 5 if the result has a snippet
+abbrev pub version_for : Record → Version
+version_for r = if is_some r.snippet then Fifth else Fourth

@@ -27,13 +27,16 @@ fn is_unmarked(record: &Record) -> bool
     has_no_guid_or_full(record) && record.partial.as_slice().is_empty()
 }
 
-/// Returns whether the entry names what the result has of that kind: its tool, its rule and its GUID; without one its
-/// URI and its fingerprints; without any its partial fingerprints; without any its message.
+/// Returns whether the entry names what the result has of that kind: its tool, its rule, its snippet and its GUID;
+/// without one its URI and its fingerprints; without any its partial fingerprints; without any its message.
 fn is_asked(kind: ConditionKind, record: &Record) -> bool
     ensures { result ≡ said.is_asked kind «record».now }
 {
     match kind {
-        ConditionKind::Tool | ConditionKind::RuleId | ConditionKind::Guid => true,
+        ConditionKind::Tool
+        | ConditionKind::RuleId
+        | ConditionKind::Guid
+        | ConditionKind::Snippet => true,
         ConditionKind::Uri | ConditionKind::Fingerprints => record.guid.is_none(),
         ConditionKind::PartialFingerprints => has_no_guid_or_full(record),
         ConditionKind::Message | ConditionKind::MessageId | ConditionKind::MessageArguments => {
@@ -136,7 +139,8 @@ fn value_of(alloc: Global, condition: &Condition) -> Result<Value, AllocError>
         | Condition::Uri(text)
         | Condition::UriPrefix(text)
         | Condition::Message(text)
-        | Condition::MessageId(text) => Value::try_from_str(alloc, text.as_str()),
+        | Condition::MessageId(text)
+        | Condition::Snippet(text) => Value::try_from_str(alloc, text.as_str()),
     }
 }
 

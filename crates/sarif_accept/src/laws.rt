@@ -1,9 +1,11 @@
 //! Laws of accepting and pruning, each the contract of a function that does nothing.
-ghost use Rattle.std.specs.Prelude.{◌≡◌, ◌≤◌, ◌<◌, ◌^◌, ◌++◌, ◌∷◌, ◌&&◌, ◌⊎◌, [], ℕ, List, Option, Ok, Some, true, false, not, length, map, get_or, IfSome};
+ghost use Rattle.std.specs.Prelude.{◌≡◌, ◌≤◌, ◌<◌, ◌^◌, ◌++◌, ◌∷◌, ◌&&◌, ◌⊎◌, [], ℕ, Bool, List, Option, Ok, Some, true, false, not, length, map, get_or, IfSome};
 ghost use Rattle.std.specs.List.{AllByRecursion};
 ghost use Rattle.serde_json.specs.Data.{Data, Members};
 ghost use Rattle.json_parts.specs.Indexed.{json_of};
 ghost use Rattle.json_parts.specs.Mark.{without_mark};
+ghost use Rattle.sarif_match.specs.declared.version.MatchingVersion.{MatchingVersion};
+ghost use Rattle.sarif_match.specs.declared.version.MatchingVersion.TheVariants.{Two};
 ghost use Rattle.sarif_model.specs.Guid.{guid_of_text};
 ghost use Rattle.sarif_model.specs.Limits.{most_entries};
 ghost use Rattle.sarif_model.specs.declared.kinds.State.{State};
@@ -11,33 +13,37 @@ ghost use Rattle.sarif_model.specs.declared.record.Record.{Record};
 ghost use Rattle.sarif_entries.specs.declared.condition.ConditionKind.TheVariants as kinds;
 ghost use Rattle.sarif_entries.specs.declared.entry.Entry.{Entry};
 ghost use Rattle.sarif_entries.specs.Condition.{text_in};
-ghost use Rattle.sarif_entries.specs.declared.version.Version.TheVariants.{Fourth};
 ghost use Rattle.sarif_entries.specs.Entries.{entry_of};
-ghost use Rattle.sarif_entries.specs.File.{File, file_of, file_of_value};
+ghost use Rattle.sarif_entries.specs.File.{File, file_of, file_of_value, looks_at_snippets};
 ghost use Rattle.sarif_entries.specs.Matching.{is_empty, is_expired, matches};
 ghost use Rattle.sarif_suppress.specs.Suppressing.{is_suppressed, is_unused, matching_numbers};
 ghost use Rattle.sarif_suppress.specs.Written.{suppressions_of};
 ghost use Rattle.sarif_accept.specs.Adding.{How, MayBeHit, is_hit, stays, added_for, entry_read, file_after};
-ghost use Rattle.sarif_accept.specs.Entry.{entry_for};
+ghost use Rattle.sarif_accept.specs.Entry.{entry_for, version_for};
+ghost use Rattle.sarif_match.specs.Seen.{as_matched};
 ghost use Rattle.sarif_entries.specs.Given.{file_or_none};
 ghost use Rattle.sarif_accept.specs.Keeping.{Heard, is_kept};
 ghost use Rattle.sarif_accept.specs.NewFile.{file_with};
 ghost use Rattle.sarif_accept.specs.Renewed.{renewed_entries, renewed_file};
 ghost use Rattle.sarif_accept.specs.Until.{HasGuid, IsDated, IsUntil};
 
-/// The entry that accepts a result is read in a file of version 4: on every date, and without an expiry date even if no
-/// date is known. On every date up to its expiry date it matches the result.
-#[tactic(auto, using(crate::proofs::EntryRead::entry_is, crate::proofs::EntryMatches::matches_is))]
+/// The entry that accepts a result is read in a file of version 4, or of version 5 if the result has a snippet: on every
+/// date, and without an expiry date even if no date is known. On every date up to its expiry date it matches the result,
+/// and so does the entry of what a version of matching reads.
+#[tactic(auto, using(crate::proofs::EntryRead::entry_is))]
 pub fn an_entry_accepts_its_result()
     ensures read { (r : Record) (reason : Option (List ℕ)) (today until : Option ℕ) (n : ℕ)
         → HasGuid r → IsDated today until
-        → entry_of Fourth today n (entry_for r reason until) ≡ Ok (entry_read r reason until) }
+        → entry_of (version_for r) today n (entry_for r reason until) ≡ Ok (entry_read r reason until) }
     ensures alone { (r : Record) (reason : Option (List ℕ)) (today until : Option ℕ) (ms : Members)
         → HasGuid r → IsDated today until
-        → file_of_value today (file_with (entry_for r reason until ∷ []) ms)
+        → file_of_value today (file_with (version_for r) (entry_for r reason until ∷ []) ms)
         ≡ Ok (record { entries = entry_read r reason until ∷ []; today = today }) }
     ensures matches { (r : Record) (reason : Option (List ℕ)) (today until : Option ℕ)
         → IsUntil today until → matches today (entry_read r reason until) r ≡ true }
+    ensures accepts { (version : MatchingVersion) (r : Record) (reason : Option (List ℕ))
+        (today until : Option ℕ) → IsUntil today until
+        → matches today (entry_read (as_matched version r) reason until) r ≡ true }
 {}
 
 /// A GUID that is read has 128 bits.
@@ -100,6 +106,18 @@ pub fn pruning_changes_no_result()
         → is_kept true heard file rs e ≡ true }
     ensures unpruned { (heard : Heard) (file : File) (rs : List Record) (e : Entry)
         → is_kept false heard file rs e ≡ true }
+{}
+
+/// Accepting in version 2 of matching adds no entry that names a snippet: the new file may name snippets if and only if
+/// the old one may.
+#[tactic(auto, using(crate::proofs::SameVersion::same_version))]
+pub fn version_2_accepts_no_snippet()
+    ensures { (how : How) (counts : MayBeHit) (given : Option (List ℕ)) (file : File)
+        (rs : List Record) (states : List State) (kept : List Bool) (text : List ℕ)
+        → how.matching ≡ Two
+        → json_of (without_mark text) ≡ Some (renewed_file given kept
+        (added_for how counts file rs states) how.renewal)
+        → looks_at_snippets (Some text) ≡ looks_at_snippets given }
 {}
 
 /// The new file of one that was read is read for the same date: its entries are those that were kept, and then those

@@ -21,7 +21,7 @@ pub use keep::kept_entries;
 pub use laws::{
     a_hit_with_suppressions_stays, a_new_file_keeps_suppressions, accepting_leaves_what_stays,
     an_entry_accepts_its_result, guids_have_128_bits, pruning_changes_no_result,
-    the_new_file_is_read,
+    the_new_file_is_read, version_2_accepts_no_snippet,
 };
 pub use once::each_once;
 pub use renewing::new_file;

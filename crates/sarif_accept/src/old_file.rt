@@ -7,11 +7,13 @@ ghost use Rattle.json_parts.specs.Indexed.{data_of};
 ghost use Rattle.sarif_accept.specs.Internal.Flags.{if_marked};
 ghost use Rattle.sarif_accept.specs.Keeping.{chosen};
 ghost use Rattle.sarif_accept.specs.NewFile as said;
+ghost use Rattle.sarif_entries.specs.File.{is_fifth};
 ghost use Rattle.sarif_model.specs.Run.{elements_or_none};
 
 use crate::marked::is_marked;
 use json::Scratch;
 use json_parts::{IndexFault, Node, index_text, without_mark};
+use sarif_entries::is_fifth;
 use serde_json::{Map, Value};
 use std::alloc::{AllocError, Global};
 
@@ -22,6 +24,8 @@ pub(crate) struct Old {
     pub(crate) entries: Vec<Value>,
     /// Its other members.
     pub(crate) others: Map<String, Value>,
+    /// Whether it is of version 5.
+    pub(crate) is_fifth: bool,
 }
 
 /// The members of a value; one that is not an object has none.
@@ -96,6 +100,7 @@ fn kept_values(
 /// What is taken from a file: its entries that `kept` marks, and its other members.
 #[tactic(auto, using(crate::proofs::Taken::chosen_of_nodes))]
 fn take_from(alloc: Global, file: &Node<'_, '_>, kept: &[bool]) -> Result<Old, AllocError>
+    ensures version { IfOk result (λ old. old.is_fifth ≡ is_fifth (data_of file.now)) }
     ensures entries { IfOk result (λ old. map view old.entries.items
         ≡ chosen kept.now (said.entries_in (data_of file.now))) }
     ensures others { IfOk result
@@ -104,12 +109,17 @@ fn take_from(alloc: Global, file: &Node<'_, '_>, kept: &[bool]) -> Result<Old, A
     let nodes = entry_nodes(alloc, file)?;
     let entries = kept_values(alloc, &nodes, kept)?;
     let others = into_members(alloc, file.to_value_without(alloc, "suppressions")?);
-    Ok(Old { entries, others })
+    Ok(Old {
+        entries,
+        others,
+        is_fifth: is_fifth(file),
+    })
 }
 
 /// The contents without a file.
 #[tactic(auto, using(crate::proofs::Taken::none_chosen))]
 fn nothing(alloc: Global, kept: &[bool]) -> Old
+    ensures version { result.is_fifth ≡ is_fifth (said.file_object None) }
     ensures entries { map view result.entries.items
         ≡ chosen kept.now (said.entries_in (said.file_object None)) }
     ensures others { members_view result.others.entries ≡ said.others_in (said.file_object None) }
@@ -117,6 +127,7 @@ fn nothing(alloc: Global, kept: &[bool]) -> Old
     Old {
         entries: Vec::new(alloc),
         others: Map::new(alloc),
+        is_fifth: false,
     }
 }
 
@@ -126,6 +137,8 @@ pub(crate) fn read_old(
     bytes: Option<&[u8]>,
     kept: &[bool],
 ) -> Result<Old, AllocError>
+    ensures version { IfOk result (λ old. old.is_fifth
+        ≡ is_fifth (said.file_object (option_map (λ b. b.now) bytes.entry))) }
     ensures entries { IfOk result (λ old. map view old.entries.items ≡ chosen kept.now
         (said.entries_in (said.file_object (option_map (λ b. b.now) bytes.entry)))) }
     ensures others { IfOk result (λ old. members_view old.others.entries

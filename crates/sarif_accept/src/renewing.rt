@@ -1,6 +1,9 @@
 //! The new suppression file.
-ghost use Rattle.std.specs.Prelude.{◌≡◌, ◌≤◌, ◌<◌, ◌+◌, ◌⊎◌, ◌++◌, Some, None, map, length, option_map, string_bytes, IfOk, OnOk};
+ghost use Rattle.std.specs.Prelude.{◌≡◌, ◌≤◌, ◌<◌, ◌+◌, ◌⊎◌, ◌++◌, ◌||◌, Some, None, is_some, map, length, option_map, string_bytes, IfOk, OnOk};
+ghost use Rattle.std.specs.Prelude.{if◌then◌else◌};
+ghost use Rattle.std.specs.List.{list_any};
 ghost use Rattle.serde_json.specs.View.{view, members_view};
+ghost use Rattle.sarif_entries.specs.declared.version.Version.TheVariants.{Fourth, Fifth};
 ghost use Rattle.json_parts.specs.Indexed.{json_of};
 ghost use Rattle.json_parts.specs.Mark.{without_mark as unmarked};
 ghost use Rattle.sarif_model.specs.Limits.{most_bytes, most_entries};
@@ -18,6 +21,7 @@ use crate::indentation::is_too_indented;
 use crate::old_file::{Old, read_old};
 use crate::printing::print_file;
 use crate::weighing::are_too_long;
+use sarif_entries::Version;
 use sarif_model::{Cause, Fault, MOST_BYTES, MOST_ENTRIES, Record, Refusal};
 use sarif_options::Renewal;
 use serde_json::{Map, Value, put};
@@ -65,17 +69,44 @@ fn add_entries(
     Ok(())
 }
 
-/// The object of these entries and of the other members of a file, of version 4.
+/// Whether the entry of one of these results names a snippet.
+fn look_at_snippets(added: &[&Record]) -> bool
+    ensures { result ≡ list_any (λ r. is_some r.now.snippet) added.now }
+{
+    for record in added {
+        if record.snippet.is_some() {
+            return true;
+        }
+    }
+    false
+}
+
+/// The version of the new file: 5 if the old one is of version 5, or if the entry of one of these results names a
+/// snippet; otherwise 4.
+fn version_after(is_fifth: bool, added: &[&Record]) -> Version
+    ensures { result ≡ (if is_fifth || list_any (λ r. is_some r.now.snippet) added.now
+        then Fifth else Fourth) }
+{
+    if is_fifth || look_at_snippets(added) {
+        Version::Fifth
+    } else {
+        Version::Fourth
+    }
+}
+
+/// The object of these entries and of the other members of a file, of this version.
 fn file_with(
     alloc: Global,
+    version: Version,
     entries: Vec<Value>,
     others: Map<String, Value>,
 ) -> Result<Value, AllocError>
     ensures { IfOk result (λ v. view v
-        ≡ parts.file_with (map view entries.items) (members_view others.entries)) }
+        ≡ parts.file_with version (map view entries.items) (members_view others.entries)) }
 {
     let mut members = others;
-    put(&mut members, alloc, "version", Value::from(4u32))?;
+    let number = Value::from(version.number());
+    put(&mut members, alloc, "version", number)?;
     put(&mut members, alloc, "suppressions", Value::Array(entries))?;
     Ok(Value::Object(members))
 }
@@ -101,15 +132,16 @@ fn renewed_file(
     let Old {
         mut entries,
         others,
+        is_fifth,
     } = read_old(alloc, bytes, kept)?;
     check_room(alloc, entries.len(), added, renewal)?;
     add_entries(alloc, &mut entries, added, renewal)?;
-    Ok(file_with(alloc, entries, others)?)
+    Ok(file_with(alloc, version_after(is_fifth, added), entries, others)?)
 }
 
 /// Returns the text of the new suppression file: of the entries of the file `bytes` those that `kept` marks, in order, then
-/// the entries that accept the results `added`, version 4, and the file's other members without numbers that have a
-/// fraction. Without a file there are no entries and no other members. Returns `TooMany` if it had more than
+/// the entries that accept the results `added`, its version, and the file's other members without numbers that have a
+/// fraction. The version is 5 if that of the file is, or if one of these results has a snippet; otherwise it is 4. Without a file there are no entries and no other members. Returns `TooMany` if it had more than
 /// `MOST_ENTRIES` entries, `TooLong` if its text had more than `MOST_BYTES` bytes, so that it could not be read again, and
 /// `OutOfMemory` if memory runs out. Checks the indentation before it makes the text, since deep values need a lot of it.
 #[tactic(auto, using(crate::proofs::RenewedFile::is_too_long, crate::proofs::RenewedFile::is_accepted))]
