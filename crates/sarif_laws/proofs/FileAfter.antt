@@ -1,8 +1,11 @@
 -- The new suppression file of inputs without errors is read as the file that was meant.
-use Rattle.std.proofs.Common.{◌≡◌, ℕ, ◌≤◌, ◌++◌, Bool, true, false, ◌&&◌, not, List, [], ◌∷◌, Result, Ok, Err, refl, ap, ◌∙◌, if◌then◌else◌}
+use Rattle.std.proofs.Common.{◌≡◌, ℕ, ◌≤◌, ◌++◌, Bool, true, false, ◌&&◌, not, List, [], ◌∷◌, map, Result, Ok, Err, refl, ap, ◌∙◌, if◌then◌else◌}
 use Rattle.std.specs.Prelude.{nat_lt}
 use Rattle.std.specs.List.{AllByRecursion, list_any}
 use Rattle.std.proofs.lemmas.Bool.{ltb-false}
+use Rattle.sarif_match.specs.Seen.{as_matched}
+use Rattle.sarif_match.specs.declared.version.MatchingVersion.{MatchingVersion}
+use Rattle.sarif_match.specs.declared.version.MatchingVersion.TheVariants.{Two, Three}
 use Rattle.sarif_model.specs.declared.kinds.State.{State}
 use Rattle.sarif_model.specs.declared.merge_fault.MergeFault.{MergeFault}
 use Rattle.sarif_model.specs.declared.merge_fault.Source.TheVariants.{Log, Baseline}
@@ -69,9 +72,18 @@ once_fit before (r ∷ rs) fit =
     elim (list_any (is_said r) before) as (λ b. AllByRecursion HasGuid (if b then once_each before rs else r ∷ once_each (before ++ r ∷ []) rs))
     [ true ↦ once_fit before rs fit.1 | false ↦ (fit.0, once_fit (before ++ r ∷ []) rs fit.1) ]
 
-added_fit : (accepts : Bool) (rs : List Record) → AllByRecursion HasGuid rs → AllByRecursion HasGuid (if accepts then once_each [] rs else [])
-added_fit true rs fit = once_fit [] rs fit
-added_fit false rs fit = tt
+one_shown : (version : MatchingVersion) (r : Record) → HasGuid r → HasGuid (as_matched version r)
+one_shown Two r fit = fit
+one_shown Three r fit = fit
+
+shown_fit : (version : MatchingVersion) (rs : List Record) → AllByRecursion HasGuid rs → AllByRecursion HasGuid (map (as_matched version) rs)
+shown_fit version [] fit = tt
+shown_fit version (r ∷ rs) fit = (one_shown version r fit.0, shown_fit version rs fit.1)
+
+added_fit : (accepts : Bool) (version : MatchingVersion) (rs : List Record) → AllByRecursion HasGuid rs
+    → AllByRecursion HasGuid (if accepts then once_each [] (map (as_matched version) rs) else [])
+added_fit true version rs fit = once_fit [] (map (as_matched version) rs) (shown_fit version rs fit)
+added_fit false version rs fit = tt
 
 -- ---- the new file
 
@@ -104,7 +116,7 @@ module _ (inputs : Inputs) (policy : Policy) (renewal : Renewal) (text : List �
       let states = states_of inputs.checks.matching rs (baseline_of inputs) in
       new_file_read (how_of (merge_in inputs policy) renewal) (may_hit policy) inputs.suppressions inputs.today (file_given inputs) rs states text
       (input_file inputs none)
-      (added_fit renewal.accept (accepted_among (may_hit policy) (file_given inputs) rs states)
+      (added_fit renewal.accept inputs.checks.matching (accepted_among (may_hit policy) (file_given inputs) rs states)
       (accepted_fit (may_hit policy) (file_given inputs) rs states (guids_fit (input_runs inputs))))
       dated (few_by (entries_count (merge_in inputs policy) renewal) _ _ small) is
 

@@ -24,7 +24,10 @@ use Rattle.sarif_options.specs.declared.upkeep.Renewal.{Renewal}
 use Rattle.sarif_read.proofs.RunOf.{stripped_ordered}
 use Rattle.sarif_accept.specs.Entry.{asked_of, entry_for, entry_rows, members_from, texts_put}
 use Rattle.sarif_accept.specs.Keeping.{chosen}
-use Rattle.sarif_accept.specs.NewFile.{entries_after, entries_in, entry_in, file_object, new_file, others_in, stripped_in}
+use Rattle.sarif_entries.specs.declared.version.Version.{Version}
+use Rattle.sarif_entries.specs.declared.version.Version.TheVariants.{First, Second, Fourth, Fifth}
+use Rattle.sarif_entries.specs.File.{number_of}
+use Rattle.sarif_accept.specs.NewFile.{entries_after, entries_in, entry_in, file_object, new_file, others_in, stripped_in, version_after}
 use Rattle.sarif_accept.proofs.EveryRow.{IsKept, IsOfEach, entry_keeps, texts_keep}
 use Rattle.sarif_laws.proofs.Lists.{all_append}
 use Rattle.sarif_laws.proofs.Ranged.{AreItemsRanged, AreMembersRanged, IsRanged, list_ranged, member_ranged, put_ranged, read_ranged, stripped_ranged, without_ranged}
@@ -176,6 +179,12 @@ added_sound (r ∷ rs) reason until small =
 
 -- ---- the new file
 
+version_sound : (version : Version) → IsSound (number (unsigned (number_of version)))
+version_sound First = record { rises = tt; fits = omega arith }
+version_sound Second = record { rises = tt; fits = omega arith }
+version_sound Fourth = record { rises = tt; fits = omega arith }
+version_sound Fifth = record { rises = tt; fits = omega arith }
+
 pub new_sound : (given : Option (List ℕ)) (kept : List Bool) (added : List Record) (renewal : Renewal) → IsSmall renewal.until
     → IsSound (new_file (file_object given) kept (map (λ r. entry_for r renewal.reason renewal.until) added))
 new_sound given kept added renewal small =
@@ -187,8 +196,9 @@ new_sound given kept added renewal small =
     let new = map (λ r. entry_for r renewal.reason renewal.until) added in
     let all = all_append IsSound (chosen kept (entries_in d)) new old (added_sound added renewal.reason renewal.until small) in
     let others = stripped_sound (without_member (codes "suppressions") d) (without_sound (codes "suppressions") d (file_sound given)) in
-    let four : IsSound (number (unsigned 4)) = record { rises = tt; fits = omega arith } in
-    object_sound (put (codes "suppressions") (array (items_of (entries_after d kept new))) (put (codes "version") (number (unsigned 4)) (others_in d)))
-    (put_sound (codes "suppressions") (array (items_of (entries_after d kept new))) (put (codes "version") (number (unsigned 4)) (others_in d))
+    let version = version_after d new in
+    let its = number (unsigned (number_of version)) in
+    object_sound (put (codes "suppressions") (array (items_of (entries_after d kept new))) (put (codes "version") its (others_in d)))
+    (put_sound (codes "suppressions") (array (items_of (entries_after d kept new))) (put (codes "version") its (others_in d))
     (list_sound (entries_after d kept new) all)
-    (put_sound (codes "version") (number (unsigned 4)) (others_in d) four others))
+    (put_sound (codes "version") its (others_in d) (version_sound version) others))

@@ -1,5 +1,6 @@
 pub mod Causes
 pub mod NewEntries
+pub mod Shown
 pub mod Stays
 pub mod Taken
 pub mod Walked

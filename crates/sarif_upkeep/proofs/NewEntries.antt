@@ -1,13 +1,15 @@
 -- The entries of the new suppression file.
-use Rattle.std.proofs.Common.{◌≡◌, ◌+◌, ℕ, suc, Bool, true, false, not, List, [], ◌∷◌, Option, Some, None, map, filter, length, length-append, refl, sym, ap, ◌∙◌, arith, if◌then◌else◌}
+use Rattle.std.proofs.Common.{◌≡◌, ◌+◌, ◌<◌, ℕ, suc, Bool, true, false, not, List, [], ◌∷◌, Option, Some, None, map, filter, length, length-append, refl, sym, ap, ◌∙◌, arith, if◌then◌else◌}
 use Rattle.std.proofs.lemmas.List.{length-map}
 use Rattle.std.proofs.lemmas.List.Sums.{length-filter}
 use Rattle.std.specs.Borrow.{Bor}
-use Rattle.std.specs.Prelude.{Ok, count_by, option_and_then, option_map, unwrap_or, codes, ok_or}
+use Rattle.std.specs.Prelude.{Ok, count_by, nat_lt, option_and_then, option_map, unwrap_or, codes, ok_or}
+use Rattle.std.proofs.lemmas.Bool.Decides.{nat_tests}
 use Rattle.serde_json.specs.Data.{Data, object, no_members}
 use Rattle.serde_json.specs.Find.{as_array, get}
 use Rattle.json_parts.specs.Indexed.{json_of}
 use Rattle.json_parts.specs.Mark.{without_mark}
+use Rattle.sarif_match.specs.Seen.{as_matched}
 use Rattle.sarif_model.specs.declared.record.Record.{Record}
 use Rattle.sarif_model.specs.Run.{elements_or_none}
 use Rattle.sarif_options.specs.declared.upkeep.Renewal.{Renewal}
@@ -20,15 +22,22 @@ use Rattle.sarif_read.proofs.WholeRuns.{bind_ok}
 use Rattle.sarif_accept.specs.Adding.{once_each}
 use Rattle.sarif_accept.specs.Entry.{entry_for}
 use Rattle.sarif_accept.specs.Keeping.{chosen, is_kept}
-use Rattle.sarif_accept.specs.NewFile.{entries_after, entries_in, file_object, new_file, stripped_in}
+use Rattle.sarif_accept.specs.NewFile.{entries_after, entries_in, file_object, file_text, new_file, stripped_in}
 use Rattle.sarif_accept.proofs.GivenFile.{checked_list}
+use Rattle.sarif_upkeep.proofs.Shown.{each_shown}
 use Rattle.sarif_upkeep.specs.Heard.{heard}
 use Rattle.sarif_upkeep.specs.Internal.IsMatched.{IsFileOf}
 use Rattle.sarif_upkeep.specs.Internal.Making.{entries_of, file_of as made_of}
 use Rattle.sarif_upkeep.specs.Merge.{Merge}
 use Rattle.sarif_upkeep.specs.Renewed.{accepted_in, added_in, entries_count, kept_in, renewal_faults, rules_after, text_faults, values_added}
 use Rattle.sarif_entries.specs.FileFault.{whole}
-use Rattle.sarif_model.specs.declared.fault.Fault.TheVariants.{NotJson}
+use Rattle.sarif_model.specs.FirstFault.{first}
+use Rattle.sarif_model.specs.Limits.{most_bytes, most_entries}
+use Rattle.sarif_model.specs.MergeFault.{cause_of, fault_at}
+use Rattle.sarif_model.specs.declared.fault.Fault.TheVariants.{NotJson, TooMany}
+use Rattle.sarif_model.specs.declared.merge_fault.At.TheVariants.{Whole}
+use Rattle.sarif_model.specs.declared.merge_fault.Cause.TheVariants.{TooLong}
+use Rattle.sarif_model.specs.declared.merge_fault.Source.TheVariants.{Suppress}
 
 -- ---- as many entries as were read
 
@@ -83,16 +92,42 @@ long_if : (accept : Bool) (rs : List Record) → length (if accept then rs else 
 long_if true rs = refl
 long_if false rs = refl
 
-once_if : (accept : Bool) (rs : List Record) → once_each [] (if accept then rs else []) ≡ (if accept then once_each [] rs else [])
-once_if true rs = refl
-once_if false rs = refl
+once_if : (accept : Bool) (f : Record → Record) (rs : List Record)
+    → once_each [] (map f (if accept then rs else [])) ≡ (if accept then once_each [] (map f rs) else [])
+once_if true f rs = refl
+once_if false f rs = refl
+
+-- the results for which entries are added, of those that are accepted
+added_by : (m : Merge) (renewal : Renewal) (accepted : List (Bor Record)) → map (λ r. r.now) accepted ≡ (if renewal.accept then accepted_in m else [])
+    → once_each [] (map (λ r. as_matched m.matching r.now) accepted) ≡ added_in m renewal
+added_by m renewal accepted is =
+    ap (once_each []) (each_shown m.matching accepted ∙ ap (map (as_matched m.matching)) is)
+    ∙ once_if renewal.accept (as_matched m.matching) (accepted_in m)
+
+-- more of them than a file may have are too many
+pub too_many : (m : Merge) (renewal : Renewal) (accepted : List (Bor Record)) (shown : List Record)
+    → shown ≡ map (λ r. as_matched m.matching r.now) accepted
+    → map (λ r. r.now) accepted ≡ (if renewal.accept then accepted_in m else [])
+    → most_entries < length (once_each [] shown) → first (renewal_faults m renewal) ≡ Some (fault_at (Whole Suppress) (cause_of TooMany))
+too_many m renewal accepted shown shown_is accepted_is many =
+    let kept = chosen (kept_in m renewal) (entries_in (file_object m.bytes)) in
+    let same : length (once_each [] shown) ≡ length (added_in m renewal) =
+    ap (λ l. length (once_each [] l)) shown_is ∙ ap length (added_by m renewal accepted accepted_is) in
+    let back = length-map (added_in m renewal) (λ r. entry_for r renewal.reason renewal.until) in
+    let joined = length-append kept (values_added m renewal) in
+    let more : most_entries < entries_count m renewal = omega (arith, many, same, back, joined) in
+    let over : nat_lt most_entries (entries_count m renewal) ≡ true = grind (arith, nat_tests) in
+    ap
+    (λ b. first
+    (if b then fault_at (Whole Suppress) (cause_of TooMany) ∷ []
+    else (if nat_lt most_bytes (length (file_text (rules_after m renewal))) then fault_at (Whole Suppress) TooLong ∷ [] else []))) over
 
 module _ (m : Merge) (renewal : Renewal) (bytes : Option (Bor (List ℕ))) (kept : List Bool) (accepted added : List (Bor Record))
     (bytes_are : option_map (λ b. b.now) bytes ≡ m.bytes) (kept_is : kept ≡ kept_in m renewal)
     (accepted_is : map (λ r. r.now) accepted ≡ (if renewal.accept then accepted_in m else []))
-    (added_is : map (λ r. r.now) added ≡ once_each [] (map (λ r. r.now) accepted)) where
+    (added_is : map (λ r. r.now) added ≡ once_each [] (map (λ r. as_matched m.matching r.now) accepted)) where
   pub added_are : map (λ r. r.now) added ≡ added_in m renewal
-  added_are = added_is ∙ ap (once_each []) accepted_is ∙ once_if renewal.accept (accepted_in m)
+  added_are = added_is ∙ added_by m renewal accepted accepted_is
 
   made_values : map (λ r. entry_for r renewal.reason renewal.until) (map (λ r. r.now) added) ≡ values_added m renewal
   made_values = ap (map (λ r. entry_for r renewal.reason renewal.until)) added_are

@@ -23,7 +23,8 @@ use Rattle.sarif_upkeep.specs.Heard.{heard}
 use Rattle.sarif_upkeep.specs.Merge.{Merge}
 
 abbrev pub how_of : Merge → Renewal → How
-how_of m renewal = record { renewal = renewal; heard = heard m.runs }
+how_of m renewal =
+    record { renewal = renewal; matching = m.matching; heard = heard m.runs }
 
 -- ---- its entries
 
@@ -36,7 +37,7 @@ kept_in m renewal =
 abbrev pub accepted_in : Merge → List Record
 accepted_in m = accepted_among (may_hit m.policy) m.file m.records m.states
 
--- the results for which entries are added
+-- the results for which entries are added, as the version of matching sees them
 abbrev pub added_in : Merge → Renewal → List Record
 added_in m renewal =
     added_for (how_of m renewal) (may_hit m.policy) m.file m.records m.states

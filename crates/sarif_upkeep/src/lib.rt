@@ -6,6 +6,7 @@ mod knowing;
 mod life;
 mod matched;
 mod renewing;
+mod showing;
 mod staying;
 mod tools;
 

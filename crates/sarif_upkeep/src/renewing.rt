@@ -1,5 +1,6 @@
 //! The new suppression file.
 ghost use Rattle.std.specs.Prelude.{◌≡◌, ◌≤◌, ◌<◌, ◌⊎◌, [], Some, count_by, if◌then◌else◌, length, map, IfOk, IfErr};
+ghost use Rattle.std.specs.Option.{option_map_or};
 ghost use Rattle.json_parts.specs.Indexed.{json_of};
 ghost use Rattle.json_parts.specs.Mark.{without_mark};
 ghost use Rattle.sarif_model.specs.declared.merge_fault.At.TheVariants.{Whole};
@@ -20,6 +21,7 @@ ghost use Rattle.sarif_upkeep.specs.Renewed as said;
 
 use crate::accepting::accepted_among;
 use crate::matched::{Current, Matched};
+use crate::showing::{references, shown_if_less};
 use crate::staying::{absent_hits, staying_among};
 use crate::tools::{heard_in, used_by};
 use sarif_accept::{each_once, kept_entries, new_file};
@@ -118,6 +120,27 @@ fn added_of<'m>(
     }
 }
 
+/// The results for which entries are added: those that are shown, if some are shown, otherwise those that are accepted.
+fn added_shown<'m>(
+    alloc: Global,
+    seed: RandomState,
+    accepted: &[&'m Record],
+    shown: &'m Option<Vec<Record>>,
+) -> Result<Vec<&'m Record>, MergeFault>
+    ensures ok { IfOk result (λ added. map (λ r. r.now) added.items ≡ once_each []
+        (option_map_or (λ v. v.items) shown.now (map (λ r. r.now) accepted.now))) }
+    ensures few { IfOk result (λ added. length added.items ≤ most_entries) }
+    ensures err { IfErr result (λ fault. (fault ≡ out_of_memory)
+        ⊎ ((fault ≡ fault_at (Whole Suppress) (cause_of TooMany))
+        × (most_entries < length (once_each []
+        (option_map_or (λ v. v.items) shown.now (map (λ r. r.now) accepted.now)))))) }
+{
+    match shown {
+        None => added_of(alloc, seed, accepted),
+        Some(records) => added_of(alloc, seed, &references(alloc, records)?),
+    }
+}
+
 /// The text of the new suppression file with these entries.
 #[tactic(auto, using(crate::proofs::Causes::no_faults, crate::proofs::Causes::some_fault))]
 fn text_of(
@@ -172,7 +195,8 @@ pub(crate) fn renew(
 {
     let kept = kept_in(alloc, seed, matched, renewal)?;
     let accepted = accepted_if(alloc, matched, renewal.accept)?;
-    let added = added_of(alloc, seed, &accepted)?;
+    let shown = shown_if_less(alloc, matched.matching, &accepted)?;
+    let added = added_shown(alloc, seed, &accepted, &shown)?;
     let text = text_of(alloc, matched.bytes, &kept, &added, renewal)?;
     let all = matched.file.len();
     let left = count_kept(&kept) as u32;
