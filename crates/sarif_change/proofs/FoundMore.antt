@@ -1,7 +1,7 @@
 -- What is found of a URI is what the definitions say.
-use Rattle.std.proofs.Common.{◌≡◌, ℕ, Bool, true, false, not, ◌&&◌, ◌||◌, List, [], ◌∷◌, ◌++◌, take, Option, Some, None, refl, sym, ap, ◌∙◌, arith, if◌then◌else◌}
+use Rattle.std.proofs.Common.{◌≡◌, ℕ, Bool, true, false, not, ◌&&◌, ◌||◌, List, [], ◌∷◌, Option, refl, sym, ap, ◌∙◌}
 use Rattle.std.specs.Prelude.{bytes_eq}
-use Rattle.std.specs.List.{list_any, list_all}
+use Rattle.std.specs.List.{list_any}
 use Rattle.sarif_diff.specs.declared.section.Section.{Section}
 use Rattle.sarif_diff.specs.declared.section.Span.{Span}
 use Rattle.sarif_change.specs.Meeting.{changes, has_last, last_alike, has_no_parts, path_may_be, may_be, meets}

@@ -1,4 +1,5 @@
 pub mod FoundMore
+pub mod GrowthMore
 pub mod IndexMore
 pub mod JoinedMore
 pub mod KeysMore
@@ -7,5 +8,6 @@ pub mod OutsideMore
 pub mod PartsMore
 pub mod PathsMore
 pub mod RaisedMore
+pub mod SharedMore
 pub mod TreeMore
 pub mod UriMore

@@ -1,5 +1,7 @@
 pub mod Internal
+pub mod Joined
 pub mod Meeting
 pub mod Outside
 pub mod Parts
+pub mod Places
 pub mod Uri

@@ -1,5 +1,5 @@
 -- Which file of a change a URI may be, and whether a place meets the change.
-use Rattle.std.specs.Prelude.{ℕ, Bool, true, false, not, ◌&&◌, ◌||◌, nat_le, List, [], ◌∷◌, Option, Some, None, bytes_eq, if◌then◌else◌}
+use Rattle.std.specs.Prelude.{ℕ, Bool, true, false, not, ◌&&◌, ◌||◌, nat_le, List, [], ◌∷◌, Option, Some, None, bytes_eq}
 use Rattle.std.specs.List.{list_any}
 use Rattle.sarif_diff.specs.declared.section.Section.{Section}
 use Rattle.sarif_diff.specs.declared.section.Span.{Span}

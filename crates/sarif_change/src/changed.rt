@@ -1,6 +1,7 @@
 //! Whether the places of a result meet a change.
 ghost use Rattle.std.specs.Prelude.{◌≡◌, ◌++◌, ◌∷◌, [], ℕ, List, true, false, Option, IfOk, map};
 ghost use Rattle.std.specs.List.{list_any, list_all, Contains};
+ghost use Rattle.sarif_change.specs.Joined.{sections_joined};
 ghost use Rattle.sarif_change.specs.Meeting as meeting;
 ghost use Rattle.sarif_change.specs.Outside as said;
 ghost use Rattle.sarif_change.specs.Parts.{pieces_of};
@@ -12,6 +13,7 @@ ghost use Rattle.sarif_change.specs.Internal.Sought.{seen, keyed};
 ghost use Rattle.sarif_change.specs.declared.spots.Spot.{Spot as OneSpot};
 
 use crate::index::{file_tree, link_tree};
+use crate::joining::join_sections;
 use crate::parts::{first_part, first_piece};
 use crate::spots::{Scope, Spot, Spots};
 use crate::tree::Tree;
@@ -19,9 +21,11 @@ use crate::uri::{SoughtPath, paths_of};
 use sarif_diff::{Section, Span};
 use sarif_model::{Region, Sequence, Text};
 use std::alloc::{AllocError, Global};
+use std::hash::BuildHasher;
 use std::marker::Model;
 
-/// What a change changes, so that places are compared with it in little time. Contracts see its sections.
+/// What a change changes, so that places are compared with it in little time. Contracts see its sections, in which files
+/// of several commits are changed whole.
 #[derive(Drop)]
 pub struct Changed {
     sections: Sequence<Section>,
@@ -131,10 +135,18 @@ fn lines_in(scope: Scope, region: Option<Region>) -> Option<Span>
 }
 
 impl Changed {
-    /// Returns what these sections change. Returns `AllocError` if memory runs out.
-    pub fn new(alloc: Global, sections: Sequence<Section>) -> Result<Changed, AllocError>
-        ensures { IfOk result (λ changed. changed ≡ sections) }
+    /// Returns what these sections change. If several sections have one name, as that of their file or before a
+    /// rename, the diff has several commits, and their files are changed whole: the line numbers of one commit aren't
+    /// those of the next. The table of names hashes with `hasher`, on which nothing depends. Returns `AllocError` if
+    /// memory runs out.
+    pub fn new<S: BuildHasher + Copy>(
+        alloc: Global,
+        hasher: S,
+        sections: Sequence<Section>,
+    ) -> Result<Changed, AllocError>
+        ensures { IfOk result (λ changed. changed ≡ sections_joined sections) }
     {
+        let sections = join_sections(alloc, hasher, sections)?;
         let files = file_tree(alloc, sections.as_slice())?;
         let links = link_tree(alloc, sections.as_slice())?;
         Ok(Changed {

@@ -4,12 +4,17 @@
 mod changed;
 mod file;
 mod index;
+mod joining;
 mod keys;
+mod laws;
 mod lines;
 mod parts;
+mod places;
 mod spots;
 mod tree;
 mod uri;
 
 pub use changed::Changed;
+pub use laws::{inside_by_lines_is_inside_by_files, what_is_inside_stays_inside};
+pub use places::places_of;
 pub use spots::{Scope, Spot, Spots};

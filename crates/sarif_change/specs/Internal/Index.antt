@@ -1,5 +1,5 @@
 -- The files of the sections, and those of them that are symbolic links.
-use Rattle.std.specs.Prelude.{◌≡◌, ℕ, Bool, true, ◌&&◌, ◌||◌, List, [], ◌∷◌, ◌++◌, take, Option, Some, None, unwrap_or, if◌then◌else◌}
+use Rattle.std.specs.Prelude.{◌≡◌, ℕ, Bool, true, ◌&&◌, ◌||◌, List, [], ◌∷◌, ◌++◌, take, Option, unwrap_or, if◌then◌else◌}
 use Rattle.std.specs.List.{list_any, list_all}
 use Rattle.sarif_diff.specs.declared.section.Section.{Section}
 use Rattle.sarif_diff.specs.declared.section.Span.{Span}

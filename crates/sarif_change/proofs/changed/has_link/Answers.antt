@@ -1,4 +1,4 @@
-use Rattle.std.proofs.Common.{rules, arith, ◌≡◌, ◌∙◌, true, length, ℕ}
+use Rattle.std.proofs.Common.{rules, arith, ◌≡◌, ◌∙◌, true, length}
 use Rattle.std.specs.Prelude.{is_none}
 use Rattle.std.proofs.lemmas.Grind.{common_steps}
 use Rattle.sarif_change.specs.Parts.{pieces_of}

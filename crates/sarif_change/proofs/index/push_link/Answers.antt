@@ -1,13 +1,11 @@
-use Rattle.std.proofs.Common.{rules, ◌≡◌, ◌<◌, ◌∙◌, ◌++◌, ◌∷◌, [], List, ℕ, Option, true, length, ap, arith}
+use Rattle.std.proofs.Common.{rules, ◌≡◌, ◌<◌, ◌∙◌, ◌++◌, ◌∷◌, [], List, true, length, ap, arith}
 use Rattle.std.proofs.lemmas.Grind.{common_steps}
 use Rattle.std.specs.List.{list_any}
-use Rattle.sarif_diff.specs.declared.section.Span.{Span}
-use Rattle.sarif_change.specs.Internal.Files.{changed_at, found_at}
+use Rattle.sarif_change.specs.Internal.Files.{found_at}
 use Rattle.sarif_change.specs.Internal.Keys.{joined}
-use Rattle.sarif_change.specs.Meeting.{changes}
 use Rattle.sarif_change.specs.Parts.{parts_of}
 use Rattle.sarif_change.specs.declared.file.ChangedFile.{ChangedFile}
-use Rattle.sarif_change.proofs.IndexMore.{link_added, no_link, no_parts}
+use Rattle.sarif_change.proofs.IndexMore.{link_added}
 use Rattle.sarif_change.proofs.JoinedMore.{parts_clean}
 use Rattle.sarif_change.proofs.index.push_link.Goals as goal
 

@@ -1,5 +1,5 @@
-use Rattle.std.proofs.Common.{rules, arith, ◌<◌}
-use Rattle.sarif_change.proofs.RaisedMore.{reached, none_before}
+use Rattle.std.proofs.Common.{arith}
+use Rattle.sarif_change.proofs.RaisedMore.{reached}
 use Rattle.sarif_change.proofs.lines.touch_any.Goals as goal
 
 pub returns : goal.returns

@@ -1,4 +1,4 @@
-use Rattle.std.proofs.Common.{rules, arith, ◌≡◌, ◌<◌, ℕ, length, map}
+use Rattle.std.proofs.Common.{rules, arith, ◌≡◌, ◌<◌, length, map}
 use Rattle.std.proofs.lemmas.Grind.{common_steps}
 use Rattle.sarif_change.specs.Internal.Sought.{seen, all_readings}
 use Rattle.sarif_change.proofs.PathsMore.{rooted_chosen, own_chosen, some_seen, none_seen}

@@ -1,4 +1,4 @@
-use Rattle.std.proofs.Common.{rules, ◌≡◌, ◌∙◌, ◌∷◌, ap, sym, map, take, drop, length, ◌-◌, arith}
+use Rattle.std.proofs.Common.{◌≡◌, ◌∙◌, ◌∷◌, ap, sym, map, take, drop, length, ◌-◌, arith}
 use Rattle.std.proofs.lemmas.List.{drop_more, take_rest}
 use Rattle.sarif_change.specs.Internal.Sought.{seen}
 use Rattle.sarif_change.proofs.PathsMore.{path_after}

@@ -1,4 +1,4 @@
-use Rattle.std.proofs.Common.{rules, ◌≡◌, ◌∙◌, ap, sym, false}
+use Rattle.std.proofs.Common.{◌≡◌, ◌∙◌, ap, sym, false}
 use Rattle.std.specs.List.{list_any}
 use Rattle.sarif_change.specs.Parts.{pieces_of}
 use Rattle.sarif_change.specs.Internal.Files.{found_at}

@@ -1,4 +1,4 @@
-use Rattle.std.proofs.Common.{rules, ◌≡◌, ◌∙◌, ◌||◌, ap, sym}
+use Rattle.std.proofs.Common.{rules, ◌≡◌, ◌∙◌, ◌||◌, ap}
 use Rattle.std.specs.List.{list_any}
 use Rattle.sarif_change.specs.Internal.Keys.{opens}
 use Rattle.sarif_change.specs.Internal.Files.{changed_at}
