@@ -7,4 +7,6 @@ mod paths;
 #[cfg(test)]
 mod places;
 #[cfg(test)]
+mod reading;
+#[cfg(test)]
 mod told;

@@ -9,7 +9,7 @@ const DIFF: &str =
 
 #[test]
 fn uris_that_may_be_the_file_are_inside(rt: HostRuntime) -> Result<(), Fail> {
-    let changed = changed_by(rt.alloc(), DIFF)?;
+    let changed = changed_by(&rt, DIFF)?;
     let inside = [
         "src/a.c",
         "./src/a.c",
@@ -47,7 +47,7 @@ fn uris_that_may_be_the_file_are_inside(rt: HostRuntime) -> Result<(), Fail> {
 
 #[test]
 fn other_uris_are_outside(rt: HostRuntime) -> Result<(), Fail> {
-    let changed = changed_by(rt.alloc(), DIFF)?;
+    let changed = changed_by(&rt, DIFF)?;
     let outside = [
         "lib/a.c",
         "../lib/a.c",
@@ -68,7 +68,7 @@ fn other_uris_are_outside(rt: HostRuntime) -> Result<(), Fail> {
 
 #[test]
 fn a_root_makes_paths_relative(rt: HostRuntime) -> Result<(), Fail> {
-    let changed = changed_by(rt.alloc(), DIFF)?;
+    let changed = changed_by(&rt, DIFF)?;
     let roots = [Text::copy_of(rt.alloc(), "file:///w/")?];
     let inside = ["file:///w/src/a.c", "file:///w/a.c", "file:///v/lib/a.c"];
     let told = other_uris(rt.alloc(), &changed, &roots, 2, false, &inside)?;
@@ -88,7 +88,7 @@ fn a_root_makes_paths_relative(rt: HostRuntime) -> Result<(), Fail> {
 #[test]
 fn names_with_marks_of_uris_are_found(rt: HostRuntime) -> Result<(), Fail> {
     let changed = changed_by(
-        rt.alloc(),
+        &rt,
         "--- a/x#y/a%41.c\n+++ b/x#y/a%41.c\n@@ -1 +1,2 @@\n x\n+y\n--- a/a#b.c\n+++ b/a#b.c\n@@ -1 +1,2 @@\n x\n+y\n",
     )?;
     let inside = ["x#y/a%41.c", "x%23y/a%2541.c", "a%23b.c#L3"];
@@ -100,7 +100,7 @@ fn names_with_marks_of_uris_are_found(rt: HostRuntime) -> Result<(), Fail> {
 #[test]
 fn a_link_may_be_a_folder(rt: HostRuntime) -> Result<(), Fail> {
     let changed = changed_by(
-        rt.alloc(),
+        &rt,
         "diff --git a/x b/x\nnew file mode 120000\n--- /dev/null\n+++ b/x\n@@ -0,0 +1 @@\n+y\n",
     )?;
     let inside = ["x", "x/a.c", "z/x/a.c", "file:///z/x/a.c"];

@@ -2,15 +2,25 @@
 use sarif_change::{Changed, Scope, Spot, Spots};
 use sarif_diff::read_sections;
 use sarif_model::{Refusal, Region, Sequence, Text};
-use std::alloc::{AllocError, Global};
+use std::alloc::{AllocError, AllocGlobal, Global};
+use std::hash::RandomState;
+use std::random::RandomSource;
+use std::test::Fail;
 
 /// Returns what a diff changes.
-pub fn changed_by(alloc: Global, diff: &str) -> Result<Changed, AllocError> {
+fn change_of(alloc: Global, seed: RandomState, diff: &str) -> Result<Changed, AllocError> {
     match read_sections(alloc, diff.as_bytes()) {
-        Ok(change) => Changed::new(alloc, change.sections),
+        Ok(change) => Changed::new(alloc, seed, change.sections),
         Err(Refusal::OutOfMemory) => Err(AllocError),
-        Err(Refusal::Fault(_)) => Changed::new(alloc, Sequence::new(alloc)),
+        Err(Refusal::Fault(_)) => Changed::new(alloc, seed, Sequence::new(alloc)),
     }
+}
+
+/// Returns what a diff changes, with a table whose seed is drawn.
+pub fn changed_by<R: AllocGlobal + RandomSource>(rt: &R, diff: &str) -> Result<Changed, Fail> {
+    let seed = RandomState::new(rt)?;
+    let changed = change_of(rt.alloc(), seed, diff)?;
+    Ok(changed)
 }
 
 /// Returns the place with this URI at these lines; without a URI if it is `-`, without lines if the first is 0.
