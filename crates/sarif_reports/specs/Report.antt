@@ -4,6 +4,7 @@ use Rattle.sarif_reports.specs.declared.report.Report.{Report}
 use Rattle.sarif_reports.specs.declared.report.Report.TheVariants as report
 use Rattle.sarif_shown.specs.Facts.{Facts}
 use Rattle.sarif_reports.specs.LaterOutputs.{known_text, suppressions_text, unused_text}
+use Rattle.sarif_shown.specs.TerminalReport.{terminal_of}
 use Rattle.sarif_shown.specs.TextReport.{text_lines_of}
 use Rattle.sarif_shown.specs.GithubReport.{github_of}
 use Rattle.sarif_reports.specs.MarkdownReport.{markdown_of}
@@ -12,7 +13,7 @@ use Rattle.sarif_page.specs.HtmlReport.{html_of}
 use Rattle.sarif_reports.specs.JunitReport.{junit_of}
 use Rattle.sarif_shown.specs.AzureReport.{azure_of}
 
--- all of them, in the order in which they are written
+-- all that have an option, in the order in which they are written
 abbrev pub all_reports : List Report
 all_reports =
     report.Suppressions
@@ -27,7 +28,7 @@ all_reports =
     ∷ report.Unused
     ∷ []
 
--- the name of each, which is also the name of its option
+-- the name of each, which is also the name of its option, if it has one
 abbrev pub report_name : Report → List ℕ
 report_name report.Suppressions = codes "suppress-out"
 report_name report.Known = codes "known"
@@ -39,6 +40,7 @@ report_name report.Html = codes "html"
 report_name report.Junit = codes "junit"
 report_name report.Azure = codes "azure"
 report_name report.Unused = codes "unused"
+report_name (report.Terminal screen) = codes "terminal"
 
 -- what error messages call each
 abbrev pub output_name : Report → List ℕ
@@ -71,3 +73,4 @@ report_of report.Html facts = html_of facts
 report_of report.Junit facts = junit_of facts
 report_of report.Azure facts = azure_of facts.findings
 report_of report.Unused facts = unused_text facts.life
+report_of (report.Terminal screen) facts = terminal_of screen facts.findings

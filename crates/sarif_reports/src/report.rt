@@ -4,7 +4,7 @@ ghost use Rattle.sarif_shown.specs.Facts.{facts_of};
 ghost use Rattle.sarif_reports.specs.Report.{is_for_merges, needs_findings, report_name, report_of};
 
 use crate::later_outputs::{known_text, suppressions_text, unused_text};
-use sarif_shown::ReportInput;
+use sarif_shown::{ReportInput, Screen};
 use std::alloc::{AllocError, Global};
 use std::fmt;
 use std::thread::Threads;
@@ -32,10 +32,12 @@ pub enum Report {
     Azure,
     /// For people: one line per entry of the suppression file that matches nothing.
     Unused,
+    /// For people at a terminal: the first hits. It has no option, and comes after the others.
+    Terminal(Screen),
 }
 
 impl Report {
-    /// All of them, in the order in which they are written.
+    /// All that have an option, in the order in which they are written.
     pub const ALL: &'static [Report] = &[
         Report::Suppressions,
         Report::Known,
@@ -49,7 +51,7 @@ impl Report {
         Report::Unused,
     ];
 
-    /// Returns the name of this output, which is also the name of its option.
+    /// Returns the name of this output, which is also the name of its option, if it has one.
     pub fn name(self) -> &'static str
         ensures { result.now ≡ report_name self }
     {
@@ -64,10 +66,11 @@ impl Report {
             Report::Junit => "junit",
             Report::Azure => "azure",
             Report::Unused => "unused",
+            Report::Terminal(_) => "terminal",
         }
     }
 
-    /// Returns what `--help` says about the option of this output.
+    /// Returns what `--help` says about the option of this output, or nothing if it has none.
     pub fn help(self) -> &'static str {
         match self {
             Report::Suppressions =>
@@ -89,6 +92,7 @@ impl Report {
             Report::Unused =>
                 "Write one line per entry of the suppression file that matches no result.\n\
                 Needs --suppress",
+            Report::Terminal(_) => "",
         }
     }
 
@@ -149,5 +153,6 @@ pub fn report_text<R: Threads + Sync>(
         Report::Junit => crate::junit_report(alloc, told),
         Report::Azure => sarif_shown::azure_report(alloc, told.findings),
         Report::Unused => unused_text(alloc, told.life),
+        Report::Terminal(screen) => sarif_shown::terminal_report(alloc, screen, told.findings),
     }
 }

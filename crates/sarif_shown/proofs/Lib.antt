@@ -10,4 +10,5 @@ pub mod ListedSorted
 pub mod PathsApart
 pub mod SeenTexts
 pub mod ShownCounted
+pub mod TerminalApart
 pub mod TextApart

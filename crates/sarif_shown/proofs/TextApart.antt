@@ -278,7 +278,7 @@ line_text n f text told lines =
     (state_name f.state) (codes ")") (codes "\n") text))
     (place_line (n + 1) f.path f.line f.column (rest_of_line f text) told.path told.line told.column (rest_text n f text told lines))
 
-all_lines : (fs : List Finding) → AllByRecursion IsTold fs → IsTextOfLines (length fs) (flat_map text_line fs)
+pub all_lines : (fs : List Finding) → AllByRecursion IsTold fs → IsTextOfLines (length fs) (flat_map text_line fs)
 all_lines [] h = ([], refl, record { ends = refl; seen = refl; colons = refl; signs = refl })
 all_lines (f ∷ fs) h =
     let count : length fs + 1 ≡ length (f ∷ fs) = omega arith in

@@ -11,6 +11,8 @@ pub mod Internal
 pub mod Listed
 pub mod ListedLaws
 pub mod Sentences
+pub mod TerminalLaws
+pub mod TerminalReport
 pub mod TextLaws
 pub mod TextReport
 pub mod Unshown

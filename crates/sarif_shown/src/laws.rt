@@ -1,6 +1,6 @@
 //! Laws of what reports show, and of the reports of one line per result. Each law is the contract of a function that
 //! does nothing. A log may be hostile, so the laws cover any strings.
-ghost use Rattle.std.specs.Prelude.{◌≡◌, ◌==◌, ◌++◌, ◌+◌, ℕ, Bool, List, AllPairs, IsPermutation, true, false};
+ghost use Rattle.std.specs.Prelude.{◌≡◌, ◌==◌, ◌++◌, ◌+◌, ◌-◌, ℕ, Bool, List, AllPairs, IsPermutation, true, false};
 ghost use Rattle.std.specs.Prelude.{codes, drop, flat_map, length, nat_eq, take};
 ghost use Rattle.std.specs.List.{AllByRecursion, count_by, filter, list_all, starts_with};
 ghost use Rattle.std.specs.List as list;
@@ -26,6 +26,9 @@ ghost use Rattle.sarif_findings.specs.declared.reporting.Show.TheVariants.{Hits,
 ghost use Rattle.sarif_findings.specs.Reported.{reported_of};
 ghost use Rattle.sarif_findings.specs.Shown.{shown_chars};
 ghost use Rattle.sarif_findings.specs.ShownLaws.{are_seen, has_two_signs};
+ghost use Rattle.sarif_shown.specs.declared.terminal_lines.Screen.TheVariants.{Plain, Coloured};
+ghost use Rattle.sarif_shown.specs.TerminalLaws.{unstyled};
+ghost use Rattle.sarif_shown.specs.TerminalReport.{most_shown, screen_line};
 ghost use Rattle.sarif_shown.specs.TextLaws.{IsTextOfLines};
 ghost use Rattle.sarif_shown.specs.TextReport.{text_line, text_lines_of};
 ghost use Rattle.sarif_shown.specs.Unshown.{unshown_number};
@@ -114,6 +117,22 @@ pub fn text_reports_have_a_line_a_result()
         text_lines_of (reported_of reporting log)
         ≡ flat_map text_line (hits_among (reported_of reporting log))
         ++ flat_map text_line (others_among (reported_of reporting log)) }
+{}
+
+/// A terminal shows each hit or counts it: the first hits have a line each. A line without colours is that of the text
+/// report, and so is a line with colours after its control sequences are taken out. So no log writes a control sequence.
+pub fn terminals_show_the_hits()
+    ensures plain { (f : Finding) → screen_line Plain f ≡ text_line f }
+    ensures coloured { (reporting : Reporting) (log : Data) →
+        AllByRecursion (λ f. unstyled (screen_line Coloured f) ≡ text_line f)
+        (reported_of reporting log) }
+    ensures lines { (reporting : Reporting) (log : Data) →
+        IsTextOfLines (length (take most_shown (hits_among (reported_of reporting log))))
+        (flat_map text_line (take most_shown (hits_among (reported_of reporting log)))) }
+    ensures counted { (reporting : Reporting) (log : Data) →
+        length (take most_shown (hits_among (reported_of reporting log)))
+        + (length (hits_among (reported_of reporting log)) - most_shown)
+        ≡ hits_of (count_of (runs_of log)) reporting.policy }
 {}
 
 /// Each line of the report for GitHub Actions begins with one of its three commands, and there is one line per

@@ -10,6 +10,7 @@ mod laws;
 mod listing;
 mod place;
 mod sentences;
+mod terminal_lines;
 mod text_lines;
 mod told;
 mod unshown;
@@ -22,7 +23,8 @@ pub use laws::{
     azure_lines_are_commands, azure_properties_hold_no_end, github_lines_begin_with_commands,
     listed_results_are_sorted, messages_without_targets_stay, paths_begin_with_names,
     reported_hits_are_counted, rules_link_to_addresses, shown_results_are_counted,
-    shown_signs_stand_apart, shown_texts_are_seen, text_reports_have_a_line_a_result,
+    shown_signs_stand_apart, shown_texts_are_seen, terminals_show_the_hits,
+    text_reports_have_a_line_a_result,
 };
 pub use listing::{list_findings, push_hits, push_others};
 pub use place::{push_numbered, push_path, push_place};
@@ -30,6 +32,7 @@ pub use sentences::{
     accept_text, count_text, entries_text, gate_end, gate_text, hits_text, more_text, runs_text,
     unshown_text,
 };
+pub use terminal_lines::{Screen, terminal_report};
 pub use text_lines::{push_result_line, text_report};
 pub use told::ReportInput;
 pub use unshown::unshown_number;

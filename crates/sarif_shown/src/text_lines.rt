@@ -8,7 +8,7 @@ use sarif_findings::Finding;
 use std::alloc::{AllocError, Global};
 
 /// Adds the rule in brackets, if there is one.
-fn push_bracketed(text: &mut String, rule: &str) -> Result<(), AllocError>
+pub(crate) fn push_bracketed(text: &mut String, rule: &str) -> Result<(), AllocError>
     ensures { OnOk result
         (string_bytes text.new ≡ string_bytes text.old ++ said.bracketed rule.now) }
 {
@@ -33,7 +33,7 @@ fn push_said(text: &mut String, finding: &Finding) -> Result<(), AllocError>
 }
 
 /// Adds the tool and the state.
-fn push_source(text: &mut String, finding: &Finding) -> Result<(), AllocError>
+pub(crate) fn push_source(text: &mut String, finding: &Finding) -> Result<(), AllocError>
     ensures { OnOk result
         (string_bytes text.new ≡ string_bytes text.old ++ said.tool_and_state finding.now) }
 {
