@@ -3,6 +3,7 @@
 use sarif_options::{Knowing, Renewal};
 use sarif_reports::Report;
 use sarif_request::{Request, RequestedOutput};
+use sarif_shown::Screen;
 use sarif_streams::{Counted, Readers};
 use std::alloc::{AllocError, AllocGlobal, Global};
 use std::cell::RefCell;
@@ -193,6 +194,10 @@ fn a_lost_output_is_named(rt: HostRuntime) -> Result<(), Fail> {
         (
             Report::Html,
             b"sarif_gate: html report: WriteFailed\n".as_slice(),
+        ),
+        (
+            Report::Terminal(Screen::Coloured),
+            b"sarif_gate: terminal report: WriteFailed\n".as_slice(),
         ),
     ] {
         let (ended, _) = run(&rt, &request, HITS, report, rooms, false)?;

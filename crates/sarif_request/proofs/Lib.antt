@@ -2,6 +2,7 @@ pub mod Added
 pub mod Asked
 pub mod Fitting
 pub mod Numbers
+pub mod OffTerminal
 pub mod Repeats
 pub mod Rows
 pub mod Told

@@ -165,6 +165,7 @@ pub record AsksFor (rows : List Row) (request : Request) : Type 0 where
   pub roots : request.roots.items ≡ values_of (codes "root") rows
   pub show : show_in rows ≡ Some request.show
   pub explain : request.explain ≡ is_set (codes "explain") rows
+  pub screen : request.screen ≡ None
   pub renewal : IsRenewal rows request.upkeep.renewal
   pub unused : request.upkeep.unused ≡ is_given (codes "unused") rows
   pub known : request.upkeep.known ≡ known_in rows

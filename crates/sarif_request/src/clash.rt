@@ -262,7 +262,7 @@ fn share_a_name(request: &Request) -> bool
 }
 
 /// Whether one of the reports has this name.
-fn is_among(name: &str, reports: &[RequestedOutput<Text>]) -> bool
+pub(crate) fn is_among(name: &str, reports: &[RequestedOutput<Text>]) -> bool
     ensures { result ≡ said.is_among name.now (map (λ report. report.to) reports.now) }
 {
     for report in reports {

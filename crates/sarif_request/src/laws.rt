@@ -1,7 +1,8 @@
 //! Laws of requests, each the contract of a function that does nothing.
-ghost use Rattle.std.specs.Prelude.{◌≡◌, ◌||◌, ℕ, true, List, Ok, IfSome};
+ghost use Rattle.std.specs.Prelude.{◌≡◌, ◌||◌, ℕ, Bool, true, List, Ok, IfSome};
 ghost use Rattle.sarif_request.specs.declared.request.Request.{Request};
 ghost use Rattle.sarif_request.specs.Dates.{IsNotPast};
+ghost use Rattle.sarif_request.specs.Terminal.{at_terminal, no_terminal};
 ghost use Rattle.sarif_request.specs.Words.{GivesRequest};
 
 /// If the arguments request a new suppression file with an expiry date for the entries that are added, it is a date, and
@@ -24,4 +25,12 @@ pub fn requested_renewals_are_sound()
     ensures expiring { (words : List (List ℕ)) (request : Request) → GivesRequest words (Ok request)
         → IfSome request.upkeep.renewal
         (λ renewal. IfSome renewal.until (λ _. renewal.accept ≡ true)) }
+{}
+
+/// If no standard stream is a terminal, the request that is served is the one that the arguments give, regardless of
+/// the colours that the environment requests.
+pub fn requests_stay_off_a_terminal()
+    ensures { (words : List (List ℕ)) (request : Request) (plain : Bool)
+        → GivesRequest words (Ok request)
+        → at_terminal (record no_terminal { plain = plain }) request ≡ request }
 {}

@@ -10,11 +10,15 @@ mod option_rows;
 mod repeated;
 mod request;
 mod showing;
+mod terminal;
 mod together;
 mod wanted;
 mod words;
 
-pub use laws::{expiry_dates_are_not_past, requested_renewals_are_sound};
+pub use laws::{
+    expiry_dates_are_not_past, requested_renewals_are_sound, requests_stay_off_a_terminal,
+};
 pub use request::Request;
+pub use terminal::{TerminalFacts, at_terminal};
 pub use wanted::RequestedOutput;
 pub use words::{WordsFault, plain_words, read_words};

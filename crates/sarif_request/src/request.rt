@@ -4,6 +4,7 @@ use crate::wanted::RequestedOutput;
 use sarif_findings::Show;
 use sarif_model::Text;
 use sarif_options::{Options, Upkeep};
+use sarif_shown::Screen;
 
 /// The request of one run. Sources have the names that were passed, in the order of the arguments.
 #[derive(Debug, Drop)]
@@ -24,8 +25,10 @@ pub struct Request {
     pub roots: Vec<Text>,
     /// Which of the reported results reports show.
     pub show: Show,
-    /// Whether errors are explained.
+    /// Whether errors are explained, and notes follow a merge.
     pub explain: bool,
+    /// How standard output shows the hits, if it does.
+    pub screen: Option<Screen>,
     /// What is made for later merges.
     pub upkeep: Upkeep,
     /// How they are merged.

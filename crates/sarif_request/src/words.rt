@@ -206,6 +206,7 @@ fn request_of(
         roots,
         show,
         explain: is_set(matches, "explain"),
+        screen: None,
         upkeep,
         options,
     })
