@@ -8,7 +8,7 @@ use Rattle.sarif_model.specs.MergeFault.{exit_status}
 use Rattle.sarif_model.specs.declared.refusal.Refusal.{Refusal}
 use Rattle.sarif_model.specs.declared.refusal.Refusal.TheVariants as refusal
 use Rattle.sarif_model.specs.declared.merge_fault.Cause.TheVariants.{ReadFailed}
-use Rattle.sarif_request.specs.Words.{words_read}
+use Rattle.sarif_request.specs.declared.terminal.TerminalFacts.{TerminalFacts}
 use Rattle.sarif_gate.specs.Served.{AreServed, unmade_status}
 
 -- the status if no arguments are left
@@ -23,12 +23,12 @@ refusal_status (refusal.Fault fault) = refused_status fault
 refusal_status refusal.OutOfMemory = unmade_status
 
 -- what the program does for the arguments that replace its own: the same as if those were its own
-abbrev pub AreServedAs : Arguments → ℕ → Type 0
-AreServedAs all status = MatchResult all (λ words. AreServed (words_read words) status)
+abbrev pub AreServedAs : TerminalFacts → Arguments → ℕ → Type 0
+AreServedAs facts all status = MatchResult all (λ words. AreServed facts words status)
     (λ fault. status ≡ refused_status fault)
 
 -- what the program does for its arguments, by what their files gave, if there is memory for that
-abbrev pub AreServedWith : List (List ℕ) → ℕ → Type 0
-AreServedWith words status =
-    ((all : Arguments) × AreReplaced HasGiven words all × AreServedAs all status)
+abbrev pub AreServedWith : TerminalFacts → List (List ℕ) → ℕ → Type 0
+AreServedWith facts words status =
+    ((all : Arguments) × AreReplaced HasGiven words all × AreServedAs facts all status)
     ⊎ (status ≡ unmade_status)

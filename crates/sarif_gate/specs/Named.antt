@@ -5,6 +5,7 @@ use Rattle.sarif_program.specs.declared.writers.Writers.{Writers}
 use Rattle.sarif_reports.specs.Report.{is_for_merges}
 use Rattle.sarif_request.specs.declared.request.Request.{Request}
 use Rattle.sarif_request.specs.declared.wanted.RequestedOutput.{RequestedOutput}
+use Rattle.sarif_request.specs.Terminal.{outputs_in}
 use Rattle.sarif_streams.specs.declared.counted.Counted.{Counted}
 use Rattle.sarif_streams.specs.declared.input.Input.{Input}
 use Rattle.sarif_streams.specs.declared.kept.Kept.{Kept}
@@ -57,5 +58,5 @@ pub record AreNamed {R I F D O E : Type 0} (request : Request)
   pub suppressions : option_map source_channel readers.suppressions
       ≡ option_map Named request.suppress
   pub out : output_channel writers.out ≡ channel_named request.out
-  pub reports : map report_channel writers.reports.items ≡ map report_named request.reports.items
+  pub reports : map report_channel writers.reports.items ≡ map report_named (outputs_in request)
   pub say : is_error (inner_of writers.say) ≡ leaves_no_output request

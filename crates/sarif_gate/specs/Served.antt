@@ -1,5 +1,5 @@
 -- What the program does for a request, and for arguments.
-use Rattle.std.specs.Prelude.{◌≡◌, ℕ, List, ◌⊎◌, None, Result, MatchResult}
+use Rattle.std.specs.Prelude.{◌≡◌, ℕ, List, [], ◌∷◌, ◌⊎◌, None, Result, MatchResult}
 use Rattle.std.specs.declared.fs.File.{File}
 use Rattle.std.specs.declared.fs.dir.Names.{Names}
 use Rattle.std.specs.declared.rt.LibcRuntime.{LibcRuntime}
@@ -14,7 +14,9 @@ use Rattle.sarif_program.specs.Run.{IsRun, Views}
 use Rattle.sarif_program.specs.Writing.{writer_failures}
 use Rattle.sarif_request.specs.declared.request.Request.{Request}
 use Rattle.sarif_request.specs.declared.words.WordsFault.{WordsFault}
-use Rattle.sarif_request.specs.Words.{GivesRequest, words_status}
+use Rattle.sarif_request.specs.declared.terminal.TerminalFacts.{TerminalFacts}
+use Rattle.sarif_request.specs.Terminal.{at_terminal, no_terminal}
+use Rattle.sarif_request.specs.Words.{GivesRequest, words_read, words_status}
 use Rattle.sarif_streams.specs.declared.input.Input.{Input}
 use Rattle.sarif_streams.specs.declared.kept.Kept.{Kept}
 use Rattle.sarif_streams.specs.declared.readers.Readers.{Readers}
@@ -80,7 +82,18 @@ unmade_status = exit_status OutOfMemory
 abbrev pub IsServed : Request → ℕ → Type 0
 IsServed request status = IsRunOf request status ⊎ (status ≡ unmade_status)
 
--- and for arguments that are read: what they request; or, if they make no request, it reports why
-abbrev pub AreServed : List (List ℕ) → ℕ → Type 0
-AreServed words status = (asked : Result Request WordsFault) × GivesRequest words asked
-    × MatchResult asked (λ request. IsServed request status) (λ fault. status ≡ words_status fault)
+-- and for arguments that are read: what they request, as it is served at a terminal with these facts; or, if they make
+-- no request, it reports why
+abbrev pub AreServedAt : TerminalFacts → List (List ℕ) → ℕ → Type 0
+AreServedAt facts words status = (asked : Result Request WordsFault) × GivesRequest words asked
+    × MatchResult asked (λ request. IsServed (at_terminal facts request) status)
+    (λ fault. status ≡ words_status fault)
+
+-- without arguments nothing is shown at a terminal
+abbrev pub facts_for : List (List ℕ) → TerminalFacts → TerminalFacts
+facts_for [] facts = no_terminal
+facts_for (word ∷ words) facts = facts
+
+-- and for its arguments, or for those that are read if there are none
+abbrev pub AreServed : TerminalFacts → List (List ℕ) → ℕ → Type 0
+AreServed facts words status = AreServedAt (facts_for words facts) (words_read words) status

@@ -5,6 +5,7 @@ ghost use Rattle.sarif_streams.specs.Failing.{failed_calls_in};
 ghost use Rattle.sarif_streams.specs.Named.{Named, channel_named};
 ghost use Rattle.sarif_streams.specs.OptionalReader.{failed_calls_if};
 ghost use Rattle.sarif_program.specs.Reports.{report_failures};
+ghost use Rattle.sarif_request.specs.Terminal.{outputs_in};
 ghost use Rattle.sarif_gate.specs.Named.{source_channel, output_channel, report_channel, report_named, is_error, leaves_no_output};
 
 use crate::merging::merge_streams;
@@ -31,7 +32,7 @@ pub struct Job<'a> {
         ≡ option_map Named «request».now.suppress },
     ghost out: { output_channel writers.out ≡ channel_named «request».now.out },
     ghost reports: { map report_channel writers.reports.items
-        ≡ map report_named «request».now.reports.items },
+        ≡ map report_named (outputs_in «request».now) },
     ghost say: { is_error (inner_of writers.say) ≡ leaves_no_output «request».now },
     ghost fresh_logs: { failed_calls_in readers.logs.items ≡ 0 },
     ghost fresh_baselines: { failed_calls_in readers.baselines.items ≡ 0 },

@@ -3,20 +3,20 @@
 
 ghost use Rattle.std.specs.Prelude.{◌≡◌, map, string_bytes};
 ghost use Rattle.sarif_gate.specs.Given.{AreServedWith, refusal_status, refused_status};
-ghost use Rattle.sarif_gate.specs.Served.{AreServed, IsServed, unmade_status};
-ghost use Rattle.sarif_request.specs.Words.{words_read};
+ghost use Rattle.sarif_gate.specs.Served.{AreServed, AreServedAt, IsServed, unmade_status};
 
 mod explaining;
 mod job;
 mod merging;
 mod outputs;
 mod sources;
+mod terminal;
 
 use job::Job;
 use sarif_arguments::{ArgumentsFault, system_arguments};
 use sarif_model::{Cause, MergeFault, Refusal};
 use sarif_program::{Complaint, Complaints, ExitStatus, seed_of};
-use sarif_request::{Request, WordsFault, plain_words, read_words};
+use sarif_request::{Request, TerminalFacts, WordsFault, at_terminal, plain_words, read_words};
 use std::alloc::AllocError;
 use std::hash::RandomState;
 use std::io::IsTerminal;
@@ -24,10 +24,11 @@ use std::process::ExitCode;
 use std::sync::Wait;
 use std::thread::Threads;
 use std::{env, io};
+use terminal::terminal_facts;
 
 fn main(rt: HostRuntime) -> ExitCode {
     let status = match words_of(&rt) {
-        Ok((words, seed)) => run_given(&rt, &rt, seed, words.as_slice()),
+        Ok((words, seed)) => run_given(&rt, &rt, seed, words.as_slice(), terminal_facts(&rt)),
         Err(error) => {
             tell_unread(&rt, &error);
             ExitStatus::for_unread_arguments()
@@ -51,11 +52,12 @@ fn run_given<T: Threads + Wait + Sync>(
     threads: &T,
     seed: RandomState,
     words: &[String],
+    facts: TerminalFacts,
 ) -> ExitStatus
-    ensures { AreServedWith (map string_bytes words.now) result }
+    ensures { AreServedWith facts (map string_bytes words.now) result }
 {
     match system_arguments(rt, words) {
-        Ok(words) => run(rt, threads, seed, words.as_slice()),
+        Ok(words) => run(rt, threads, seed, words.as_slice(), facts),
         Err(refusal) => tell_refusal(rt, &refusal),
     }
 }
@@ -91,37 +93,39 @@ fn tell_invalid(rt: &HostRuntime, fault: &ArgumentsFault) -> ExitStatus
     ExitStatus::for_unread_arguments()
 }
 
-/// Does what the arguments request. Without arguments it does what `plain_words` request: it merges one log from
-/// standard input to standard output.
+/// Does what the arguments request at a terminal with these facts. Without arguments it does what `plain_words` request,
+/// as if there were no terminal: it merges one log from standard input to standard output.
 fn run<T: Threads + Wait + Sync>(
     rt: &HostRuntime,
     threads: &T,
     seed: RandomState,
     words: &[String],
+    facts: TerminalFacts,
 ) -> ExitStatus
-    ensures { AreServed (words_read (map string_bytes words.now)) result }
+    ensures { AreServed facts (map string_bytes words.now) result }
 {
     if !words.is_empty() {
-        return run_words(rt, threads, seed, words);
+        return run_words(rt, threads, seed, words, facts);
     }
     tell_terminal(rt);
     match plain_words(rt.alloc()) {
-        Ok(plain) => run_words(rt, threads, seed, plain.as_slice()),
+        Ok(plain) => run_words(rt, threads, seed, plain.as_slice(), TerminalFacts::NONE),
         Err(error) => tell_unmade(rt, error),
     }
 }
 
-/// Does what arguments request.
+/// Does what arguments request at a terminal with these facts.
 fn run_words<T: Threads + Wait + Sync>(
     rt: &HostRuntime,
     threads: &T,
     seed: RandomState,
     words: &[String],
+    facts: TerminalFacts,
 ) -> ExitStatus
-    ensures { AreServed (map string_bytes words.now) result }
+    ensures { AreServedAt facts (map string_bytes words.now) result }
 {
     match read_words(rt.alloc(), seed, words) {
-        Ok(asked) => serve(rt, threads, &asked),
+        Ok(asked) => serve(rt, threads, &at_terminal(facts, asked)),
         Err(fault) => {
             tell(rt, &fault);
             ExitStatus::of_words(&fault)
