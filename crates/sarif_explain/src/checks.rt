@@ -280,6 +280,7 @@ const ENTRY_MEMBERS: &[Check] = &[
     Check(&["message"], May, Wanted::Text),
     Check(&["messageId"], May, Wanted::Text),
     Check(&["messageArguments"], May, Wanted::Texts),
+    Check(&["snippet"], May, Wanted::Text),
     Check(&["expires"], May, Wanted::Day),
     Check(&["status"], May, Wanted::Status),
     Check(&["justification"], May, Wanted::Text),
@@ -297,24 +298,29 @@ pub(crate) const ENTRY_NAMES: &[(&str, u64)] = &[
     ("message", 4),
     ("messageId", 4),
     ("messageArguments", 4),
+    ("snippet", 5),
     ("expires", 2),
     ("status", 1),
     ("justification", 1),
 ];
 
-/// What is expected of the members of an entry in a file of version 1, 2 and 4, and of its conditions.
+/// What is expected of the members of an entry in a file of version 1, 2, 4 and 5, and of its conditions.
 pub(crate) const FIRST_NAMES: &str = "in version 1 only the members tool, ruleId, uri, guid, \
     fingerprints, partialFingerprints, status and justification";
 
 pub(crate) const SECOND_NAMES: &str = "in version 2 only the members tool, ruleId, uri, \
     uriPrefix, guid, fingerprints, partialFingerprints, expires, status and justification";
 
-pub(crate) const FOURTH_NAMES: &str = "only the members tool, ruleId, uri, uriPrefix, guid, \
-    fingerprints, partialFingerprints, message, messageId, messageArguments, expires, status and \
-    justification";
+pub(crate) const FOURTH_NAMES: &str = "in version 4 only the members tool, ruleId, uri, \
+    uriPrefix, guid, fingerprints, partialFingerprints, message, messageId, messageArguments, \
+    expires, status and justification";
+
+pub(crate) const FIFTH_NAMES: &str = "only the members tool, ruleId, uri, uriPrefix, guid, \
+    fingerprints, partialFingerprints, message, messageId, messageArguments, snippet, expires, \
+    status and justification";
 
 pub(crate) const CONDITIONS: &str = "at least one of tool, ruleId, uri, uriPrefix, guid, \
-    fingerprints, partialFingerprints, message, messageId and messageArguments";
+    fingerprints, partialFingerprints, message, messageId, messageArguments and snippet";
 
 const EMPTY_MATCH: &[Check] = &[Check(&[], Must, Wanted::Condition)];
 

@@ -7,7 +7,7 @@ use sarif_model::Fault;
 use serde_json::Value;
 use std::alloc::Global;
 
-/// Whether an entry may have a member of that name, in a file of that version, which is 1, 2 or 4.
+/// Whether an entry may have a member of that name, in a file of that version, which is 1, 2, 4 or 5.
 fn is_known(version: u64, name: &str) -> bool {
     ENTRY_NAMES
         .iter()
@@ -19,7 +19,8 @@ fn members_of(version: u64) -> Wanted {
     match version {
         1 => Wanted::FirstMembers,
         2 => Wanted::SecondMembers,
-        _ => Wanted::FourthMembers,
+        4 => Wanted::FourthMembers,
+        _ => Wanted::FifthMembers,
     }
 }
 

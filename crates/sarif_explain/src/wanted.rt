@@ -1,5 +1,5 @@
 //! What is expected instead of the invalid value: the table of sentences.
-use crate::checks::{CONDITIONS, FIRST_NAMES, FOURTH_NAMES, SECOND_NAMES};
+use crate::checks::{CONDITIONS, FIFTH_NAMES, FIRST_NAMES, FOURTH_NAMES, SECOND_NAMES};
 use json_parts::MAX_DEPTH;
 use sarif_model::{
     FIRST_DAY, LAST_DAY, MOST_BYTES, MOST_ENTRIES, MOST_RESULTS, MOST_RUNS, MOST_SOURCES,
@@ -44,6 +44,8 @@ pub(crate) enum Wanted {
     FirstMembers,
     SecondMembers,
     FourthMembers,
+    /// Of version 5.
+    FifthMembers,
     Day,
     Condition,
     Today,
@@ -91,12 +93,13 @@ impl Wanted {
             Wanted::Rule => "the index of one of the rules of the component, or -1",
             Wanted::Invocation => "the index of one of the invocations of the run, or -1",
             Wanted::Artifact => "the index of one of the artifacts of the run, or -1",
-            Wanted::FileVersion => "the integer 1, 2 or 4, written without a fraction",
+            Wanted::FileVersion => "the integer 1, 2, 4 or 5, written without a fraction",
             Wanted::Entries => "an object with an array suppressions",
             Wanted::Entry => "an object with only the members that its version has",
             Wanted::FirstMembers => FIRST_NAMES,
             Wanted::SecondMembers => SECOND_NAMES,
             Wanted::FourthMembers => FOURTH_NAMES,
+            Wanted::FifthMembers => FIFTH_NAMES,
             Wanted::Condition => CONDITIONS,
             Wanted::Today => "today's date, since the entry has an expiry date",
             Wanted::Readable => "a file that exists and can be read to its end",

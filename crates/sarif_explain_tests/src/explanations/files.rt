@@ -34,7 +34,7 @@ fn a_file_has_a_version_and_a_list_within_the_limit(rt: HostRuntime) -> Result<(
             r#"  file: found.sarif
   where: /version
   found: 1.0
-  wanted: the integer 1, 2 or 4, written without a fraction
+  wanted: the integer 1, 2, 4 or 5, written without a fraction
   advice: write the file in version 4, with "version": 4
 "#,
         ),
@@ -44,7 +44,7 @@ fn a_file_has_a_version_and_a_list_within_the_limit(rt: HostRuntime) -> Result<(
             r#"  file: found.sarif
   where: 
   found: nothing
-  wanted: the member version, the integer 1, 2 or 4, written without a fraction
+  wanted: the member version, the integer 1, 2, 4 or 5, written without a fraction
   advice: add "version": 4 to the file
 "#,
         ),
@@ -108,7 +108,34 @@ fn an_entry_has_the_members_of_its_version(rt: HostRuntime) -> Result<(), Fail> 
             r#"  file: found.sarif
   where: /suppressions/0/until
   found: 20251231
-  wanted: only the members tool, ruleId, uri, uriPrefix, guid, fingerprints, partialFingerprints, message, messageId, messageArguments, expires, status and justification
+  wanted: in version 4 only the members tool, ruleId, uri, uriPrefix, guid, fingerprints, partialFingerprints, message, messageId, messageArguments, expires, status and justification
+  advice: fix the entry, or validate the file against its JSON Schema
+"#,
+        ),
+        (
+            r#"{"version":4,"suppressions":[{"message":"m","snippet":"x"}]}"#,
+            r#"  file: found.sarif
+  where: /suppressions/0/snippet
+  found: "x"
+  wanted: in version 4 only the members tool, ruleId, uri, uriPrefix, guid, fingerprints, partialFingerprints, message, messageId, messageArguments, expires, status and justification
+  advice: fix the entry, or validate the file against its JSON Schema
+"#,
+        ),
+        (
+            r#"{"version":5,"suppressions":[{"snippet":"x","until":20251231}]}"#,
+            r#"  file: found.sarif
+  where: /suppressions/0/until
+  found: 20251231
+  wanted: only the members tool, ruleId, uri, uriPrefix, guid, fingerprints, partialFingerprints, message, messageId, messageArguments, snippet, expires, status and justification
+  advice: fix the entry, or validate the file against its JSON Schema
+"#,
+        ),
+        (
+            r#"{"version":5,"suppressions":[{"tool":"lint","snippet":5}]}"#,
+            r#"  file: found.sarif
+  where: /suppressions/0/snippet
+  found: 5
+  wanted: a string
   advice: fix the entry, or validate the file against its JSON Schema
 "#,
         ),
@@ -161,7 +188,7 @@ fn an_entry_names_a_condition_and_may_need_the_day(rt: HostRuntime) -> Result<()
             r#"  file: found.sarif
   where: /suppressions/1
   found: {"fingerprints":{"a":null}}
-  wanted: at least one of tool, ruleId, uri, uriPrefix, guid, fingerprints, partialFingerprints, message, messageId and messageArguments
+  wanted: at least one of tool, ruleId, uri, uriPrefix, guid, fingerprints, partialFingerprints, message, messageId, messageArguments and snippet
   advice: add a condition; without one, the entry would match every result
 "#,
         ),
