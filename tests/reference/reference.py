@@ -11,20 +11,16 @@ import re
 import sys
 
 from reference_arguments import NoArguments, Unread, replaced
+from reference_entries import read_rules
 from reference_json import Fault, compact, read_json, stripped
 from reference_life import Known, PastLimit, Renewed, failed, file_of, unused
 from reference_matching import has_evidence, partners, region_and_snippet, state
+from reference_members import KINDS, LEVELS, STATES, STATUSES, guid, index, objects, of_kind, one_of, texts
 
 MOST_LOGS = 1_000
 MOST_RUNS = 10_000
 MOST_RESULTS = 1_000_000
-MOST_ENTRIES = 10_000
 MOST_BYTES = 67_108_864
-
-LEVELS = ("none", "note", "warning", "error")
-KINDS = ("pass", "open", "informational", "notApplicable", "review", "fail")
-STATES = ("absent", "new", "unchanged", "updated")
-STATUSES = ("accepted", "underReview", "rejected")
 
 
 class Refused(Exception):
@@ -33,69 +29,6 @@ class Refused(Exception):
     def __init__(self, place, cause):
         super().__init__(f"{place}: {cause}" if place else cause)
         self.status = 3 if cause in ("ReadFailed", "WriteFailed") else 2
-
-
-# ---- Members by type: null is treated as missing
-
-
-def is_whole(value):
-    return isinstance(value, int) and not isinstance(value, bool)
-
-
-def of_kind(holder, name, kind, cause):
-    """Returns the member `name` if it has this type, or None if it is missing. Otherwise raises the error."""
-    value = holder.get(name)
-    if value is not None and not isinstance(value, kind):
-        raise Fault(cause)
-    return value
-
-
-def one_of(holder, name, texts, cause):
-    value = holder.get(name)
-    if value is not None and (not isinstance(value, str) or value not in texts):
-        raise Fault(cause)
-    return value
-
-
-def objects(holder, name, cause):
-    values = of_kind(holder, name, list, cause) or []
-    if not all(isinstance(value, dict) for value in values):
-        raise Fault(cause)
-    return values
-
-
-def index(holder, name):
-    """An integer from -1, which means missing, to 2^32 - 1."""
-    value = holder.get(name)
-    if value is None:
-        return None
-    if not is_whole(value) or not -1 <= value < 2**32:
-        raise Fault("BadIndex")
-    return None if value == -1 else value
-
-
-def texts(holder, name, cause):
-    """An object whose values are strings or null. Null values are treated as missing."""
-    found = of_kind(holder, name, dict, cause) or {}
-    pairs = {key: text for key, text in found.items() if text is not None}
-    if not all(isinstance(text, str) for text in pairs.values()):
-        raise Fault(cause)
-    return pairs
-
-
-HEX = "[0-9a-fA-F]"
-HYPHENATED = f"{HEX}{{8}}-{HEX}{{4}}-{HEX}{{4}}-{HEX}{{4}}-{HEX}{{12}}"
-GUID = re.compile(rf"{HEX}{{32}}|{HYPHENATED}|\{{{HYPHENATED}\}}|(?i:urn:uuid:){HYPHENATED}")
-
-
-def guid(holder, name, cause):
-    """A GUID as a number, from its simple, hyphenated, braced or URN form."""
-    text = of_kind(holder, name, str, cause)
-    if text is None:
-        return None
-    if not GUID.fullmatch(text):
-        raise Fault(cause)
-    return int(re.sub("^(?i:urn:uuid:)|[{}-]", "", text), 16)
 
 
 # ---- Reading a log
@@ -298,104 +231,6 @@ class Record:
         if artifact >= len(head.artifacts):
             raise Fault("BadIndex")
         return head.artifacts[artifact]
-
-
-# ---- The suppression file
-
-TABLE = (
-    "tool",
-    "ruleId",
-    "uri",
-    "guid",
-    "fingerprints",
-    "partialFingerprints",
-    "status",
-    "justification",
-)
-DATED = ("uriPrefix", "expires")
-WORDED = ("message", "messageId", "messageArguments")
-KNOWN = {1: TABLE, 2: (*TABLE, *DATED), 4: (*TABLE, *DATED, *WORDED)}
-
-
-class Entry:
-    """An entry of the suppression file."""
-
-    def __init__(self, entry, version, today):
-        if not isinstance(entry, dict) or not set(entry) <= set(KNOWN[version]):
-            raise Fault("BadEntry")
-        names = ("tool", "ruleId", "uri", "uriPrefix")
-        self.tool, self.rule, self.uri, self.prefix = (
-            of_kind(entry, it, str, "BadEntry") for it in names
-        )
-        self.guid = guid(entry, "guid", "BadEntry")
-        self.full = texts(entry, "fingerprints", "BadEntry")
-        self.partial = texts(entry, "partialFingerprints", "BadEntry")
-        self.message = of_kind(entry, "message", str, "BadEntry")
-        self.message_id = of_kind(entry, "messageId", str, "BadEntry")
-        self.arguments = of_kind(entry, "messageArguments", list, "BadEntry") or []
-        if not all(isinstance(it, str) for it in self.arguments):
-            raise Fault("BadEntry")
-        self.status = one_of(entry, "status", STATUSES, "BadEntry") or "accepted"
-        self.justification = of_kind(entry, "justification", str, "BadEntry")
-        self.expires = self.day(entry.get("expires"))
-        named = (self.tool, self.rule, self.uri, self.prefix, self.guid, self.message, self.message_id)
-        lists = (self.full, self.partial, self.arguments)
-        if all(it is None for it in named) and not any(lists):
-            raise Fault("EmptyMatch")
-        if self.expires is not None and today is None:
-            raise Fault("NeedsToday")
-        self.is_expired = self.expires is not None and today > self.expires
-
-    def day(self, value):
-        if value is None:
-            return None
-        if not is_whole(value) or not 10000101 <= value <= 99991231:
-            raise Fault("BadEntry")
-        if not 1 <= value // 100 % 100 <= 12 or not 1 <= value % 100 <= 31:
-            raise Fault("BadEntry")
-        return value
-
-    def matches(self, record):
-        uri = record.place[0]
-        text, name, arguments = record.message
-        wanted = (
-            (self.tool, record.tool),
-            (self.rule, record.rule),
-            (self.uri, uri),
-            (self.guid, record.guid),
-            (self.message, text),
-            (self.message_id, name),
-            (self.arguments or None, list(arguments)),
-        )
-        return (
-            not self.is_expired
-            and all(value is None or value == has for value, has in wanted)
-            and (self.prefix is None or uri is not None and uri.startswith(self.prefix))
-            and all(record.full.get(name) == text for name, text in self.full.items())
-            and all(record.partial.get(name) == text for name, text in self.partial.items())
-        )
-
-    def object(self):
-        reason = {} if self.justification is None else {"justification": self.justification}
-        return {"kind": "external", "status": self.status, **reason}
-
-
-def read_rules(source, today):
-    file = read_json(source)
-    if not isinstance(file, dict) or not isinstance(file.get("suppressions"), list):
-        raise Fault("NotList")
-    version = file.get("version")
-    if not is_whole(version) or version not in KNOWN:
-        raise Fault("WrongVersion")
-    if len(file["suppressions"]) > MOST_ENTRIES:
-        raise Fault("TooMany")
-    entries = []
-    for number, entry in enumerate(file["suppressions"]):
-        try:
-            entries.append(Entry(entry, version, today))
-        except Fault as fault:
-            raise Fault(fault.cause, entry=number) from None
-    return entries
 
 
 # ---- The merge

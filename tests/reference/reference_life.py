@@ -2,6 +2,7 @@
 entries, and the known log. It follows the rules sentence by sentence and shares no code with the program."""
 
 from reference_json import compact, quoted, read_json, stripped
+from reference_matching import telling
 from reference_reports import shown
 
 MOST_ENTRIES = 10_000
@@ -73,23 +74,24 @@ def there(members):
 # ---- The new suppression file
 
 
-def conditions(record):
-    """What the entry that accepts this record asks of a result."""
+def conditions(record, version):
+    """What the entry that accepts this record requires of a result, besides its snippet."""
     text, identity, arguments = record.message
     uri = record.place[0]
+    full, partial = telling(record.full, version), telling(record.partial, version)
     if record.guid is not None:
         return {"guid": hyphenated(record.guid)}
-    if record.full:
-        return {"fingerprints": record.full, "uri": uri}
-    if record.partial:
-        return {"partialFingerprints": record.partial, "uri": uri}
+    if full:
+        return {"fingerprints": full, "uri": uri}
+    if partial:
+        return {"partialFingerprints": partial, "uri": uri}
     words = list(arguments) or None
     return {"uri": uri, "message": text, "messageId": identity, "messageArguments": words}
 
 
-def entry_for(record, reason=None, until=None):
+def entry_for(record, version, reason=None, until=None):
     own = {"tool": record.tool, "ruleId": record.rule, "justification": reason, "expires": until}
-    return there({**own, **conditions(record)})
+    return there({**own, **conditions(record, version), "snippet": record.snippet})
 
 
 class Renewed:
@@ -103,14 +105,15 @@ class Renewed:
         added = []
         seen = set()
         for finding in able:
-            entry = entry_for(finding.record, reason, until)
+            entry = entry_for(finding.record, merge.checks.version, reason, until)
             if compact(entry) not in seen:
                 seen.add(compact(entry))
                 added.append(entry)
         self.accepted, self.stay, self.pruned = len(able), len(hits) - len(able), sum(goes)
         self.entries = len(kept) + len(added)
         others = stripped(merge.file)
-        self.text = pretty({**others, "suppressions": kept + added, "version": 4}) + "\n"
+        is_fifth = merge.file.get("version") == 5 or any("snippet" in entry for entry in added)
+        self.text = pretty({**others, "suppressions": kept + added, "version": 5 if is_fifth else 4}) + "\n"
         if self.entries > MOST_ENTRIES:
             raise PastLimit("suppressions", "TooMany")
         if len(self.text.encode()) > MOST_BYTES:

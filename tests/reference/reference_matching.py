@@ -67,8 +67,8 @@ def telling(members, version):
     return {name: value for name, value in members.items() if value or version == 2}
 
 
-def tiers(current, baseline, version):
-    """The tiers of a version in their order. The tiers of a name are pairs."""
+def tiers(current, baseline, version, missing=()):
+    """The tiers of a version in their order, without those that are missing. The tiers of a name are pairs."""
     names = {name for it in [*current, *baseline] for name in telling(it.full, version)}
     names = sorted(names, key=lambda name: name.encode(), reverse=True)
     everywhere = [("fingerprint", name) for name in names]
@@ -76,7 +76,8 @@ def tiers(current, baseline, version):
         return ["guid", *everywhere, "partial here", "partial moved", "place"]
     here = [("fingerprint here", name) for name in names]
     last = ["partial moved", "place text", "place", "place left"]
-    return ["guid", "same", "same text", *here, "partial here", *everywhere, *last]
+    every = ["guid", "same", "same text", *here, "partial here", *everywhere, *last]
+    return [it for it in every if it not in missing]
 
 
 def key(record, tier, version):
@@ -124,10 +125,10 @@ def by_key(records, numbers, tier, version):
     return found
 
 
-def partners(current, baseline, version=2):
-    """For each current result, the number of its baseline result or None."""
+def partners(current, baseline, version=2, missing=()):
+    """For each current result, the number of its baseline result or None. Laws leave out tiers."""
     found = [None] * len(current)
-    for tier in tiers(current, baseline, version):
+    for tier in tiers(current, baseline, version, missing):
         left = [i for i in range(len(current)) if found[i] is None]
         taken = set(found)
         free = [j for j in range(len(baseline)) if j not in taken]
