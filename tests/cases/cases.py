@@ -164,6 +164,11 @@ def merged(gate, *runs):
     return text({"properties": {"gate": gate}, "runs": list(runs), "version": "2.1.0"})
 
 
+def in_order(value):
+    """The value with the members of each object in the order of their names."""
+    return json.loads(json.dumps(value, sort_keys=True))
+
+
 def written(name, *results):
     return {"results": list(results), "tool": {"driver": {"name": name}}}
 

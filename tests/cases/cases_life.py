@@ -131,9 +131,6 @@ def entries_of_results():
     yield accepts("an empty reason, until today", FINDING, dated, more)
 
 
-# ---- The new suppression file
-
-
 def new_files():
     one_entry = {"message": "m", "ruleId": "R1", "tool": "lint"}
     file = {

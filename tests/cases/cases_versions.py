@@ -167,6 +167,87 @@ def ignored():
     )
 
 
+SPACED = 'a"x\\u0020=\\u00201"'
+
+# The entries of a file of version 5, results, which of these are suppressed (s) or active (a) in version 3 of matching,
+# and how many entries are unused.
+SEEN = [
+    ([{"snippet": " x=1"}], f'{SPACED} a"x=2" a', "saa", 0),
+    ([{"snippet": "", "tool": "lint"}], 'a"x" a', "aa", 1),
+    ([{"snippet": " \t\n"}], 'a"x" a', "aa", 1),
+    ([{"snippet": "\u00a0x"}], 'a"x"', "a", 1),
+    ([{"snippet": None, "tool": "lint"}], 'a"x" a', "ss", 0),
+    ([{"snippet": "x"}], 'a"x"@3 b"x"@9 a"x"[y] a"x"+G a"X" a"xx" a"x"/n', "ssssaas", 0),
+    ([{"snippet": "x", "uri": "a.c"}, {"snippet": "x", "uri": "b.c"}], 'a"x" a"y" b"y"', "saa", 1),
+    ([{"snippet": "x", "fingerprints": {"f/v1": "y"}}], 'a"x"[y] a"x"[z] a"z"[y]', "saa", 0),
+    ([{"snippet": "x", "partialFingerprints": {"p": "1"}}], 'a"x"(p:1) a"x"(p:2)', "sa", 0),
+    ([{"snippet": "x", "guid": GUIDS["G"]}], 'a"x"+G a"x"+H a"y"+G a"x"', "saaa", 0),
+    ([{"snippet": "x", "message": "m"}, {"message": "n"}], 'a"x" a"x"/n a"y"', "ssa", 0),
+    ([{"snippet": "x", "uriPrefix": "a"}, {"snippet": "y", "ruleId": "R1"}], 'a"x" b"x" b"y"', "sas", 0),
+]
+
+# Entries of a file of this version that aren't read, and why.
+UNREAD = [
+    (5, {"snippet": 5}, "BadEntry"),
+    (5, {"snippet": ["x"]}, "BadEntry"),
+    (5, {"snippet": {"text": "x"}}, "BadEntry"),
+    (5, {"snippet": None}, "EmptyMatch"),
+    (5, {"tool": "lint", "max": 1}, "BadEntry"),
+    *((version, {"tool": "lint", "snippet": value}, "BadEntry") for version in (1, 2, 4) for value in ("x", None)),
+]
+
+
+# The same in version 2, where no result has a snippet: an entry matches only if it names none.
+UNSEEN = [
+    ([{"snippet": None, "tool": "lint"}], 'a"x" a', "ss", 0),
+    ([{"snippet": "x", "message": "m"}, {"message": "n"}], 'a"x" a"x"/n a"y"', "asa", 1),
+    ([{"snippet": "x", "tool": "lint"}, {"snippet": ""}, {"tool": "lint", "uri": "b.c"}], 'a"x" b"x"', "as", 2),
+    *((entries, words, "a" * len(wanted), 1) for entries, words, wanted, _ in SEEN[:3]),
+]
+
+
+def snippets():
+    """Entries that name snippets, with both versions of matching."""
+    for version, table in (("2", UNSEEN), ("3", SEEN)):
+        more = ["--matching", version]
+        for entries, words, wanted, unused in table:
+            suppressed = {"new": [0, wanted.count("s"), 0, 0]}
+            yield merging(
+                "snippets",
+                f"version {version}: {entries} on {words}",
+                [lint(words)],
+                suppress=rules(*entries, version=5),
+                more=more,
+                check=tells(gate(new=[0, wanted.count("a"), 0, 0], suppressed=suppressed, unused=unused)),
+            )
+        for file_version, entry, cause in UNREAD:
+            yield merging(
+                "snippets",
+                f"version {version}: {entry} in a file of version {file_version}",
+                [lint("a")],
+                suppress=rules(entry, version=file_version),
+                more=more,
+                **refused(f"suppressions, entry 0: {cause}"),
+            )
+    for words, baseline, answer in (('a"y" a"x"', 'a"x"', "=n 0"), ('a"x"', 'a"y"', "= 0"), ("b(p:)", "a(p:)", "~ 0")):
+        yield merging(
+            "snippets",
+            f"version 2 of matching looks at no snippet: {words} with {baseline}",
+            [lint(words)],
+            [lint(baseline)],
+            suppress=rules(version=5),
+            check=told(answer),
+        )
+    for number in (3, 6, 50):
+        yield merging(
+            "snippets",
+            f"there is no version {number}",
+            [lint("a")],
+            suppress=rules({"tool": "lint"}, version=number),
+            **refused("suppressions: WrongVersion"),
+        )
+
+
 def cases():
-    for part in (examples, spots, ignored):
+    for part in (examples, spots, ignored, snippets):
         yield from part()

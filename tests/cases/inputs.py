@@ -265,12 +265,39 @@ class Inputs:
         text = self.any(["x", "x", "y", " x", "x\n", "\t", "", "\u00a0", "\u000b", 5, None])
         return self.any([{"text": text}] * 9 + [{}, None, "x", []])
 
+    # ---- results that occur more than once
+
+    def copied(self, logs):
+        """Adds some results of these logs again: to their own run, to other runs and to other logs."""
+        runs = [it for log in logs if isinstance(log["runs"], list) for it in log["runs"]]
+        lists = [it["results"] for it in runs if isinstance(it, dict) and isinstance(it.get("results"), list)]
+        for _ in range(self.count(1, 3, 3, 2)):
+            found = [(results, it) for results in lists for it in results if isinstance(it, dict)]
+            if not found:
+                return
+            home, result = self.any(found)
+            if self.chance(0.9):
+                # Other runs may lack what it refers to.
+                for name in ("rule", "ruleIndex", "provenance"):
+                    result.pop(name, None)
+                result["locations"] = [self.spot()]
+            for _ in range(self.count(0, 3, 2, 1)):
+                to = self.any([home, *lists])
+                again = {**result, "rank": 1} if self.chance(0.2) else result
+                to.insert(self.rng.randint(0, len(to)), again)
+
+    def spot(self):
+        """A place with a line, and sometimes with a snippet."""
+        snippet = [("snippet", 0.5, self.snippet), ("endLine", 0.2, self.line)]
+        region = {"startLine": self.any([1, 2]), **self.members(*snippet)}
+        return {"physicalLocation": {"artifactLocation": {"uri": self.any(URIS)}, "region": region}}
+
     # ---- a suppression file
 
     def rules(self):
-        version = self.any([1, 2, 2, 4, 4])
+        version = self.any([1, 2, 2, 4, 4, 5, 5, 5])
         if self.chance(self.wrong):
-            version = self.any([3, Raw("1.0"), "1", None, True])
+            version = self.any([3, 6, Raw("1.0"), "1", None, True])
         entries = self.value(self.list([1, 3, 4, 3], lambda: self.entry(version)))
         return {"version": version, "suppressions": entries, "properties": 1.5}
 
@@ -286,6 +313,7 @@ class Inputs:
             ("messageId", 0.1, self.one(["i", "m"])),
             ("messageArguments", 0.1, self.one([["x"], ["x", "y"], []])),
         ]
+        shown = [("snippet", 0.4, self.one(["x", " x", "x\n", "y", "", "\t", "\u00a0"]))]
         found = self.members(
             ("tool", 0.3, self.one(["lint", "flint", "x"])),
             ("ruleId", 0.4, self.one(RULES)),
@@ -296,7 +324,8 @@ class Inputs:
             ("status", 0.5, self.one(["accepted", "accepted", *STATUSES])),
             ("justification", 0.3, self.one(["j", "k"])),
             *dated * (version != 1 or self.chance(self.wrong)),
-            *worded * (version == 4 or self.chance(self.wrong)),
+            *worded * (version in (4, 5) or self.chance(self.wrong)),
+            *shown * (version == 5 or self.chance(self.wrong)),
         )
         if not self.chance(0.1 * bool(self.wrong)):
             found.setdefault("ruleId", self.any(RULES))

@@ -1,0 +1,277 @@
+"""Cases of version 5 of the suppression file: the condition on a result's snippet."""
+
+from cases import *
+from cases_life import GUID, entries, known, life, pretty, rerun
+from cases_versions import one, spoken
+from cases_words import merging
+from matching_examples import listed
+
+# The entries, the results, and which are suppressed (s) or active (a), with the number of unused entries.
+SNIPPETS = [
+    ([{"snippet": " x=1"}], 'a"x = 1" a"x=2" a', "s a a 0"),
+    ([{"snippet": "", "tool": "lint"}], 'a"x" a', "a a 1"),
+    ([{"snippet": ""}], 'a"x" a', "a a 1"),
+    ([{"snippet": " \t\n\f\r"}], 'a"x" a" "', "a a 1"),
+    ([{"snippet": "x"}], 'a" x" a"x\\n" a"\\tx" a"\\fx\\r" b"x" a"xx" a"X"', "s s s s s a a 0"),
+    ([{"snippet": "x"}], 'a"\\u00a0x" a"\\u000bx" a"\\u2003x"', "a a a 1"),
+    ([{"snippet": "\u00a0x"}], 'a"\\u00a0 x" a"x"', "s a 0"),
+    ([{"snippet": "x"}], "a@3 a[x] a(p:x) a/x", "a a a a 1"),
+    ([{"snippet": "x", "uri": "b.c"}], 'a"x" b"x" b', "a s a 0"),
+    ([{"snippet": "x", "message": "n"}], 'a"x"/n a"x" a"y"/n', "s a a 0"),
+    ([{"snippet": "x", "fingerprints": {"f/v1": "l"}}], 'a[l]"x" a[l]"y" a"x"', "s a a 0"),
+    ([{"snippet": it} for it in ("x", "y", "x ")], 'a"y" a"z" a"x"', "s a s 0"),
+    ([{"snippet": "x"}, {"snippet": "x", "uriPrefix": "c"}], 'a"x" a"y"', "s a 1"),
+    ([{"snippet": "x", "messageArguments": []}, {"snippet": "y", "uri": None}], 'a"x" a"y"', "s s 0"),
+]
+
+
+def suppressing(name, given, words, answer, more=(), group="fifth"):
+    """A merge of these results, and all that it writes."""
+    *sides, unused = answer.split()
+    accepted = [{"kind": "external", "status": "accepted"}]
+    results = [spoken(it) for it in listed(words)]
+    marks = [marked("new", suppressions=accepted * (it == "s"), **one) for it, one in zip(sides, results)]
+    counts = gate(unused=int(unused), new=[0, sides.count("a"), 0, 0], suppressed={"new": [0, sides.count("s"), 0, 0]})
+    assert len(sides) == len(results), words
+    return merging(
+        group,
+        name,
+        [log(run("lint", *results))],
+        suppress=rules(*given, version=5),
+        more=list(more),
+        out=merged(*in_order([counts, written("lint", *marks)])),
+    )
+
+
+def examples():
+    """In version 2 no result has a snippet."""
+    for given, words, answer in SNIPPETS:
+        name = f"{json.dumps(given)} on {words}"
+        yield suppressing(f"version 3: {name}", given, words, answer, ["--matching", "3"])
+        unmatched = f"{'a ' * len(listed(words))}{len(given)}"
+        yield suppressing(f"version 2: {name}", given, words, unmatched, ["--matching", "2"])
+        yield suppressing(f"no version: {name}", given, words, unmatched)
+
+
+CONTEXT = {"startLine": 3, "snippet": {"text": "x"}}
+READ = {
+    "a context of the same lines": ({"region": {"startLine": 3}, "contextRegion": CONTEXT}, True),
+    "a context of other lines": ({"region": {"startLine": 4}, "contextRegion": CONTEXT}, False),
+    "the region's own, before the context's": (
+        {"region": {"startLine": 3, "snippet": {"text": "y"}}, "contextRegion": CONTEXT},
+        False,
+    ),
+    "a region without a line": ({"region": {"snippet": {"text": "x"}}}, True),
+    "a snippet of another type": ({"region": {"startLine": 3, "snippet": "x"}}, False),
+}
+
+
+def read():
+    """Which snippet an entry is compared with."""
+    for name, (regions, is_match) in READ.items():
+        physical = {"artifactLocation": {"uri": "a.c"}, **regions}
+        counts = [0, 1, 0, 0]
+        side = {"suppressed": {"new": counts}} if is_match else {"new": counts, "unused": 1}
+        yield merging(
+            "fifth",
+            f"the snippet of {name}",
+            [log(run("lint", ruled(locations=[{"physicalLocation": physical}])))],
+            suppress=rules({"snippet": "x"}, version=5),
+            more=["--matching", "3"],
+            check=tells(gate(**side), ["new"]),
+        )
+    physical = {"region": {"startLine": 3, "snippet": {"text": "x"}}}
+    yield merging(
+        "fifth",
+        "a result without a place has no snippet",
+        [log(run("lint", ruled(locations=[{"physicalLocation": physical}])))],
+        suppress=rules({"snippet": "x"}, version=5),
+        more=["--matching", "3"],
+        check=tells(gate(new=[0, 1, 0, 0], unused=1), ["new"]),
+    )
+
+
+# ---- Files and entries that are rejected
+
+TWO = [1, 2, 4]
+REJECTED = [
+    *((5, {"snippet": it}, "BadEntry") for it in (5, ["x"], {"text": "x"}, True)),
+    *((version, {"snippet": it, "tool": "lint"}, "BadEntry") for version in TWO for it in ("x", None)),
+    (5, {"snippet": None}, "EmptyMatch"),
+    (5, {"snippet": None, "messageArguments": [], "fingerprints": {"f": None}}, "EmptyMatch"),
+    (5, {"Snippet": "x"}, "BadEntry"),
+    # There is no limit on how many results an entry matches yet.
+    *((version, {"max": it, "tool": "lint"}, "BadEntry") for version in (4, 5) for it in (1, None)),
+    (5, {"max": 1}, "BadEntry"),
+]
+
+
+def rejected_entries(table):
+    for version, entry, cause in table:
+        yield merging(
+            "fifth",
+            f"version {version} with {json.dumps(entry)}",
+            [log(run("lint", ruled()))],
+            suppress=rules(entry, version=version),
+            **refused(f"suppressions, entry 0: {cause}"),
+        )
+
+
+def rejected():
+    yield from rejected_entries(REJECTED)
+    for version in (6, 3, 55):
+        yield merging(
+            "fifth",
+            f"version {version} is unknown",
+            [ONE],
+            suppress=rules(version=version),
+            **refused("suppressions: WrongVersion"),
+        )
+    yield merging("fifth", "no entries in version 5", [ONE], suppress=rules(version=5), out=ONE_MERGED)
+    every = {"tool": "b", "uriPrefix": "x", "message": "m", "messageId": "i", "expires": 20250131}
+    every["messageArguments"] = ["u"]
+    yield merging(
+        "fifth",
+        "version 5 has the members of version 4",
+        [ONE],
+        suppress=rules(every, version=5),
+        more=["--today", "20250131"],
+        check=tells(gate(new=[0, 1, 0, 0], unused=1), ["new"]),
+    )
+
+
+# ---- The entry that accepts a result
+
+
+def bad(word):
+    return {**one(word), "level": "error"}
+
+
+HERE = {"ruleId": "R1", "tool": "lint"}
+WORDED = {"message": "m", **HERE, "uri": "a.c"}
+
+# The result, and its entries in version 3 and in version 2.
+ACCEPTED = [
+    ('a"x"', {**WORDED, "snippet": "x"}, WORDED),
+    ('a" x =\\n1"@3', {**WORDED, "snippet": " x =\n1"}, WORDED),
+    ("a@3", WORDED, WORDED),
+    ('a" \\t"', WORDED, WORDED),
+    ('a"x"+G[f:l](p:1)', {"guid": GUID, **HERE, "snippet": "x"}, {"guid": GUID, **HERE}),
+    (
+        'a"x"[f:l,g:]',
+        {"fingerprints": {"f": "l"}, **HERE, "uri": "a.c", "snippet": "x"},
+        {"fingerprints": {"f": "l", "g": ""}, **HERE, "uri": "a.c"},
+    ),
+    (
+        "a[f:](p:1,q:)",
+        {"partialFingerprints": {"p": "1"}, **HERE, "uri": "a.c"},
+        {"fingerprints": {"f": ""}, **HERE, "uri": "a.c"},
+    ),
+    ("a(p:)", WORDED, {"partialFingerprints": {"p": ""}, **HERE, "uri": "a.c"}),
+    ('a[f:](p:)"x"', {**WORDED, "snippet": "x"}, {"fingerprints": {"f": ""}, **HERE, "uri": "a.c"}),
+]
+
+
+def accepted():
+    for word, third, second in ACCEPTED:
+        for version, entry in (("3", third), ("2", second)):
+            made = entries(entry, version=5 if "snippet" in entry else 4)
+            yield life(
+                f"version {version}: the entry of {word}",
+                f"--matching {version} --accept --suppress-out n",
+                log(run("lint", bad(word))),
+                status=1,
+                said=["sarif_gate: 1 accepted, 0 stay, 0 pruned, 1 entries"],
+                made={"n": pretty(made)},
+            ).into("fifth")
+    two = [{**WORDED, "snippet": it} for it in "yx"]
+    results = log(run("lint", bad('a"y"'), bad('a"x"')))
+    for more, made in (("--matching 3 ", entries(*two, version=5)), ("", entries(WORDED))):
+        number = len(made["suppressions"])
+        yield life(
+            f"two secrets are accepted, {more or 'without the option'}",
+            f"{more}--suppress-out n --accept",
+            results,
+            status=1,
+            said=[f"sarif_gate: 2 accepted, 0 stay, 0 pruned, {number} entries"],
+            made={"n": pretty(made)},
+        ).into("fifth")
+    side = {"new": [1, 0, 0, 0]}
+    for word, version, hits in (('a"x"@90', "3", 0), ('a"z"', "3", 1), ('a"x"@90', "2", 1)):
+        counts = gate("fail", 1, unused=2, **side) if hits else gate(unused=1, suppressed=side)
+        yield merging(
+            "fifth",
+            f"version {version}: two accepted secrets, and {word}",
+            [log(run("lint", bad(word)))],
+            suppress=pretty(entries(*two, version=5)),
+            more=["--matching", version],
+            status=hits,
+            check=tells(counts, ["new"]),
+        )
+
+
+def versions_of_files():
+    """Which version a new file has."""
+    snippet = {**WORDED, "snippet": "x"}
+    old = {"tool": "b"}
+    given = [
+        ("it is 5 if that of the old file is", "--prune", 5, [bad("a")], [old], 5),
+        ("and if an entry is added to it", "--accept", 5, [bad("a")], [old, WORDED], 5),
+        ("it is 5 if a snippet is added", "--accept --matching 3", 2, [bad('a"x"')], [old, snippet], 5),
+        ("it is 4 if none is", "--accept --matching 3", 1, [bad("a@3")], [old, WORDED], 4),
+        ("nor in version 2", "--accept", 4, [bad('a"x"')], [old, WORDED], 4),
+    ]
+    for name, words, version, results, wanted, made in given:
+        number = len(wanted) - 1
+        yield life(
+            f"the version of a new file: {name}",
+            f"{words} --suppress s --suppress-out n",
+            log(run("lint", *results)),
+            {"s": rules(old, version=version)},
+            status=1,
+            said=[f"sarif_gate: {number} accepted, 0 stay, 0 pruned, {len(wanted)} entries"],
+            made={"n": pretty(entries(*wanted, version=made))},
+        ).into("fifth")
+    stays = {"snippet": "x", "guid": None, "tool": "b"}
+    yield life(
+        "an old entry stays as it is",
+        "--prune --suppress s --suppress-out n",
+        log(run("lint", bad('a"x"'))),
+        {"s": rules(stays, {"snippet": "y", "tool": "lint"}, {"snippet": "", "tool": "lint"}, version=5)},
+        status=1,
+        said=["sarif_gate: 0 accepted, 0 stay, 2 pruned, 1 entries"],
+        made={"n": pretty(entries(stays, version=5))},
+    ).into("fifth")
+    unused = 'entry 0: unmatched: {"guid":null,"snippet":"y ##"}\n'.replace("##", "# #")
+    yield life(
+        "an unused entry with a snippet is listed",
+        "--matching 3 --suppress s --unused u",
+        log(run("lint", bad('a"x"'))),
+        {"s": rules({"snippet": "y ##", "guid": None}, {"snippet": "x", "tool": "lint"}, version=5)},
+        made={"u": unused.encode()},
+    ).into("fifth")
+
+
+def known_logs():
+    """Only with version 3 of matching, the known log has regions and snippets, and entries read them."""
+    given = log(run("lint", bad('a"x"@3')))
+    place = {"artifactLocation": {"uri": "a.c"}}
+    region = {"snippet": {"text": "x"}, "startLine": 3}
+    failed, passed = "fail, hits 1", "pass, hits 0"
+    for version, physical, verdict in (("2", place, failed), ("3", {**place, "region": region}, passed)):
+        result = {**bad("a"), "locations": [{"physicalLocation": physical}]}
+        yield life(
+            f"version {version}: what is known of a result whose snippet an entry names",
+            f"--matching {version} --known k --adopt --suppress s",
+            given,
+            {"s": rules({"snippet": "x"}, version=5)},
+            status=int(verdict == failed),
+            said=["sarif_gate: 1 known, 0 left out, 0 kept"],
+            last=f"gate: {verdict}, max 0",
+            made={"k": pretty(known(rerun("lint", result)))},
+        ).into("fifth")
+
+
+def cases():
+    for part in (examples, read, rejected, accepted, versions_of_files, known_logs):
+        yield from part()
