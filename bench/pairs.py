@@ -1,6 +1,6 @@
 """Pairs of older and newer logs, and what a merge of logs with baselines says about each result.
 
-A result is a Record of tests/reference/reference.py, with its state.
+A result is a Record of tests/reference/reference.py with region and snippet, and with its state.
 """
 
 import json
@@ -12,7 +12,7 @@ from pathlib import Path
 
 sys.path.insert(0, str(Path(__file__).resolve().parents[1] / "tests/reference"))
 
-from reference import Head, Record
+from reference import Checks, Head, Record
 from reference_json import Fault
 from reference_matching import partners, state
 
@@ -48,7 +48,7 @@ def records_of(source):
         head = Head(run)
         for value in run.get("results") or []:
             was = value.pop("baselineState", None)
-            found.append((was, Record(head, value)))
+            found.append((was, Record(head, value, Checks(version=3))))
     return found
 
 

@@ -5,92 +5,9 @@ nearly the same length. What many results share in the costly input is in a memb
 What causes much work in the costly input causes little in the twin.
 """
 
-import json
-from dataclasses import dataclass, field
-from typing import Optional
-
-LONG = "n" * 100_000
-MEGABYTE = "n" * 1_000_000
-# Names that begin like this, with eight digits and this ending, have the same hash in the kit's tables
-# if the tables have their default seed.
-SAME_HASH = "p9zdi529cnqp5de7tP_z'E{$", "/v1/v1/v1/v1/v1/"
-OTHER_HASH = "another-beginning-of-it_", "/v1/v1/v1/v1/v1/"
-REPORTS = "text", "github", "markdown", "gitlab", "html", "junit", "azure"
-
-
-@dataclass
-class Input:
-    """The inputs of a merge."""
-
-    logs: list
-    baselines: list = field(default_factory=list)
-    suppress: Optional[str] = None
-    workers: int = 1
-    are_reported: bool = False
-    # Which files for later merges are requested: `accept`, `known` or none.
-    kept: str = ""
-    # Whether the merge is rejected, since a file for later merges would be too long.
-    is_too_long: bool = False
-    # The version of matching. Without the option it is 2.
-    matching: int = 2
-
-    def files(self, folder):
-        """Writes the files. Returns the arguments that merge them."""
-        words = ["--workers", str(self.workers), "--today", "20250131"]
-        for number, text in enumerate(self.baselines):
-            words += ["--baseline", put(folder / f"baseline{number}", text)]
-        if self.suppress is not None:
-            words += ["--suppress", put(folder / "suppressions", self.suppress)]
-        if self.are_reported:
-            words += [word for it in REPORTS for word in (f"--{it}", str(folder / it))]
-        if self.kept == "accept":
-            words += ["--suppress-out", str(folder / "new"), "--accept"]
-        if self.kept == "known":
-            words += ["--known", str(folder / "known"), "--adopt"]
-        if self.matching != 2:
-            words += ["--matching", str(self.matching)]
-        return [*words, *(put(folder / f"log{n}", text) for n, text in enumerate(self.logs))]
-
-    def statuses(self):
-        """How the merge may end."""
-        return [2] if self.is_too_long else [0, 1]
-
-    def bytes(self):
-        return sum(map(len, [*self.logs, *self.baselines, self.suppress or ""]))
-
-
-def put(path, text):
-    path.write_text(text, encoding="utf-8")
-    return str(path)
-
-
-def compact(value):
-    return json.dumps(value, ensure_ascii=False, separators=(",", ":"))
-
-
-def log(*runs):
-    return compact({"version": "2.1.0", "runs": list(runs)})
-
-
-def run(results, driver=None, **members):
-    return {"tool": {"driver": {"name": "t", **(driver or {})}}, "results": results, **members}
-
-
-def entries(found, version=2):
-    return compact({"version": version, "suppressions": found})
-
-
-def message(text="m", **members):
-    return {"message": {"text": text}, **members}
-
-
-def at(uri):
-    return {"locations": [{"physicalLocation": {"artifactLocation": {"uri": uri}}}]}
-
-
-def placed(**location):
-    return {"locations": [{"physicalLocation": {"artifactLocation": location}}]}
-
+from shape_parts import LONG, MEGABYTE, OTHER_HASH, SAME_HASH, Input
+from shape_parts import at, entries, hashed, in_region, log, logs_of, message, placed, run
+from shapes_fifth import accepted_by_snippet, entries_of_one_snippet, entries_of_snippets, of_message, of_print
 
 # ---- A long string that many results share
 
@@ -135,10 +52,6 @@ def tool_and_names(count):
 
 
 # ---- Names that collide
-
-
-def hashed(number, parts):
-    return f"{parts[0]}{number:08}{parts[1]}"
 
 
 def colliding_names(count):
@@ -543,17 +456,6 @@ def known_long_rule(count):
 # ---- Matching by snippets and lines: version 3
 
 
-def logs_of(results, most):
-    """Logs with at most so many results each."""
-    return [log(run(results[it : it + most])) for it in range(0, len(results), most)]
-
-
-def in_region(context=None, **region):
-    """The first location of a result, with a region."""
-    physical = {"artifactLocation": {"uri": "a.c"}, "region": region, **(context or {})}
-    return {"locations": [{"physicalLocation": physical}]}
-
-
 def shared_snippet(count):
     """Results with one snippet of a megabyte, in logs of 50 results each."""
     for name, other in (("text", "x"), ("x", "text")):
@@ -666,6 +568,9 @@ SHAPES = {
     # The same for messages without a text: many ids, and one id with many arguments.
     "accepted_of_one_argument": (accepted_by_id(lambda n: f"m{n}", lambda n: ["a"]), 200_000),
     "accepted_of_one_id": (accepted_by_id(lambda n: "m", lambda n: ["a", n]), 200_000),
+    # Accepted results of one fingerprint: many snippets in one file, and one snippet in many files.
+    "accepted_of_snippets": (accepted_by_snippet(lambda n: f"x{n}", lambda n: "src/a.c"), 200_000),
+    "accepted_of_one_snippet": (accepted_by_snippet(lambda n: "REDACTED", lambda n: f"src/{n}.c"), 200_000),
     "overrides_of_nothing": (overrides_of_nothing, 20_000),
     "overrides_of_one": (overrides_of_one, 20_000),
     "invocations": (invocations, 20_000),
@@ -719,4 +624,13 @@ SHAPES = {
     # Logs of 64 MiB that are nearly all `contextRegion`.
     "contexts": (contexts, 60_000),
     "repeated_contexts": (repeated_contexts, 1_900_000),
+    # Entries that differ only in the snippet: it is their only condition, or they are as --accept writes them.
+    "entries_snippet": (entries_of_snippets({}), 10_000),
+    "entries_rule_and_snippet": (
+        entries_of_snippets({"tool": "t", "ruleId": "R", "message": "m", "uri": "a.c"}),
+        10_000,
+    ),
+    # Entries of one snippet and one file, which differ in a fingerprint or in the message.
+    "entries_snippet_print": (entries_of_one_snippet(of_print), 10_000),
+    "entries_snippet_message": (entries_of_one_snippet(of_message), 10_000),
 }

@@ -1,0 +1,76 @@
+"""Costly inputs with suppression files of version 5, each with its twin."""
+
+from shape_parts import Input, entries, in_region, log, message, run
+
+
+def entries_of_snippets(condition):
+    """Ten results per entry, each with its own snippet. The entries differ only in the snippet, and match no result.
+    They are compared with as many by GUID."""
+
+    def make(count):
+        results = [
+            message(ruleId="R", **in_region(startLine=i + 1, snippet={"text": f"s{i}"})) for i in range(count * 10)
+        ]
+        text = log(run(results))
+        found = [{**condition, "snippet": f"x{i}"} for i in range(count)]
+        yield Input([text], suppress=entries(found, 5), matching=3)
+        guid = "00000000-0000-0000-0000-{:012}"
+        found = [{**condition, "guid": guid.format(i)} for i in range(count)]
+        yield Input([text], suppress=entries(found, 5), matching=3)
+
+    return make
+
+
+def entries_of_one_snippet(member):
+    """Ten results per entry, all with one snippet, as redacted ones are, and in one file. Results and entries differ in
+    what `member` makes from a number, and no entry matches. The entries are compared with as many by GUID."""
+
+    def make(count):
+        region = in_region(startLine=1, snippet={"text": "REDACTED"})
+        results = [{**message(ruleId="R"), **member(f"{i}", False), **region} for i in range(count * 10)]
+        text = log(run(results))
+        accepted = {"tool": "t", "ruleId": "R", "uri": "a.c", "snippet": "REDACTED"}
+        found = [{**accepted, **member(f"x{i}", True)} for i in range(count)]
+        yield Input([text], suppress=entries(found, 5), matching=3)
+        guid = "00000000-0000-0000-0000-{:012}"
+        found = [{**accepted, "guid": guid.format(i)} for i in range(count)]
+        yield Input([text], suppress=entries(found, 5), matching=3)
+
+    return make
+
+
+def of_print(word, is_entry):
+    return {"fingerprints": {"f/v1": word}}
+
+
+def of_message(word, is_entry):
+    return {"message": word if is_entry else {"text": word}}
+
+
+def accepted_by_snippet(text, uri):
+    """Results of one rule, message and fingerprint, with a twentieth as many entries, which name these and a snippet
+    of no result, compared with as many by GUID. Snippet and URI are made from a number; one may be the same for all."""
+
+    def make(count):
+        print_ = {"fingerprints": {"f/v1": "x"}}
+        results = [
+            message("m", ruleId="R", locations=[placed_snippet(text(f"{i}"), uri(f"{i}"))], **print_)
+            for i in range(count)
+        ]
+        merged, many = log(run(results)), range(count // 20)
+        conditions = [
+            {"tool": "t", "ruleId": "R", "snippet": text(f"x{i}"), "uri": uri(f"x{i}"), **print_}
+            for i in many
+        ]
+        yield Input([merged], suppress=entries(conditions, 5), matching=3)
+        guid = "00000000-0000-0000-0000-{:012}"
+        found = [{"tool": "t", "ruleId": "R", "guid": guid.format(i)} for i in many]
+        yield Input([merged], suppress=entries(found, 5), matching=3)
+
+    return make
+
+
+def placed_snippet(text, uri):
+    """A location with a snippet."""
+    region = {"startLine": 1, "snippet": {"text": text}}
+    return {"physicalLocation": {"artifactLocation": {"uri": uri}, "region": region}}
