@@ -1,0 +1,5 @@
+pub mod ByTool
+pub mod Keyed
+pub mod SameTiers
+pub mod Shifted
+pub mod TwoTools
