@@ -1,0 +1,4 @@
+pub mod Ignored
+pub mod Parts
+pub mod Renumbered
+pub mod Sources

@@ -1,0 +1,2 @@
+pub mod Ignoring
+pub mod Parts
