@@ -1,7 +1,7 @@
 -- A finding by what is read from its result is the finding of the result.
-use Rattle.std.proofs.Common.{◌≡◌, ℕ, List, [], Option, Some, None, chars, codes, is_some, option_map, refl, ap, ◌∙◌}
+use Rattle.std.proofs.Common.{◌≡◌, ℕ, false, List, [], Option, Some, None, chars, codes, is_some, option_map, refl, ap, ◌∙◌}
 use Rattle.std.specs.Prelude.{option_and_then, unwrap_or, if◌then◌else◌}
-use Rattle.std.specs.Option.{option_or}
+use Rattle.std.specs.Option.{option_map_or, option_or}
 use Rattle.serde_json.specs.Data.{Data}
 use Rattle.serde_json.specs.Find.{get, as_array}
 use Rattle.sarif_model.specs.declared.first_location.FirstLocation.{FirstLocation}
@@ -15,14 +15,17 @@ use Rattle.sarif_model.specs.Members.{text_in}
 use Rattle.sarif_findings.specs.declared.reporting.Reporting.{Reporting}
 use Rattle.sarif_findings.specs.declared.told_result.ToldResult.{ToldResult}
 use Rattle.sarif_findings.specs.Internal.Told.{IsTold}
+use Rattle.sarif_findings.specs.Code.{code_by}
+use Rattle.sarif_findings.specs.Internal.SnippetsOf.{first_context}
 use Rattle.sarif_findings.specs.Links.{unlinked}
-use Rattle.sarif_findings.specs.Located.{own_id_at, component_at, rule_at, descriptor_at, descriptor_id_at, rule_id_at, help_at, strings_at, looked_up_at, text_at, message_text_at, arguments_at, message_at, uri_at, path_at, line_at, column_at, finding_at}
+use Rattle.sarif_findings.specs.Located.{own_id_at, component_at, rule_at, descriptor_at, descriptor_id_at, rule_id_at, help_at, rule_name_at, code_at, strings_at, looked_up_at, text_at, message_text_at, arguments_at, message_at, uri_at, path_at, is_exact_at, line_at, column_at, finding_at}
 use Rattle.sarif_findings.specs.Lookup as Lookup
-use Rattle.sarif_findings.specs.Lookup.{artifact_uri, component_by, component_of, descriptor_of, driver_of, elements_in, location_uri, number_in, own_rule_id, position_in, position_number, rule_by, rule_id, rule_index, uri_of}
+use Rattle.sarif_findings.specs.Lookup.{artifact_uri, component_by, component_of, context_number, descriptor_of, driver_of, elements_in, location_uri, number_in, own_rule_id, position_in, position_number, rule_by, rule_id, rule_index, snippet_in, uri_of}
 use Rattle.sarif_findings.specs.Message as Message
 use Rattle.sarif_findings.specs.Message.{arguments_of, component_string, descriptor_string, found_text, looked_up, message_of, strings_of, text_by}
 use Rattle.sarif_findings.specs.Placeholders.{filled}
-use Rattle.sarif_findings.specs.Reported.{finding_of, help_in, link_of, only_with, path_in, line_in, column_in, shown_path}
+use Rattle.sarif_findings.specs.RuleName.{name_in, shown_name}
+use Rattle.sarif_findings.specs.Reported.{code_in, finding_of, help_in, is_exact_in, is_exact_path, rule_name_in, link_of, only_with, path_in, line_in, column_in, shown_path}
 
 uri_within : (run : Data) (artifact : Option Data)
     → option_or (string_in (codes "uri") artifact) (option_and_then (artifact_uri run) (integer_in (codes "index") artifact))
@@ -43,6 +46,11 @@ uri_same run result location is =
 path_same : (reporting : Reporting) (run result : Data) (location : FirstLocation) → IsFirstLocation location result
     → path_at reporting run location ≡ path_in reporting run result
 path_same reporting run result location is = ap (option_and_then (shown_path reporting.roots)) (uri_same run result location is)
+
+exact_same : (reporting : Reporting) (run result : Data) (location : FirstLocation) → IsFirstLocation location result
+    → is_exact_at reporting run location ≡ is_exact_in reporting run result
+exact_same reporting run result location is =
+    ap (λ uri. option_map_or (is_exact_path reporting.roots) uri false) (uri_same run result location is)
 
 position_same : (name : List ℕ) (number : Option ℕ) (result : Data) → number ≡ integer_in name (first_region result)
     → option_and_then position_number number ≡ position_in name result
@@ -96,6 +104,34 @@ help_same : (run result : Data) (r : RuleReference) → IsRuleReference r result
 help_same run result r is =
     ap (λ d. option_and_then link_of (option_and_then (text_in (codes "helpUri")) d)) (descriptor_same run result r is)
 
+name_same : (run result : Data) (r : RuleReference) → IsRuleReference r result → rule_name_at run r ≡ rule_name_in run result
+name_same run result r is =
+    ap (λ id. option_map shown_name (option_and_then (name_in id) (descriptor_at run r))) (id_same run result r is)
+    ∙ ap (λ d. option_map shown_name (option_and_then (name_in (rule_id run result)) d)) (descriptor_same run result r is)
+
+-- ---- the code
+
+snippet_within : (region : Option Data)
+    → string_in (codes "text") (option_and_then (get (codes "snippet")) region)
+    ≡ option_and_then (text_in (codes "text")) (option_and_then (get (codes "snippet")) region)
+snippet_within region = text_within (codes "text") (option_and_then (get (codes "snippet")) region)
+
+code_same : (reporting : Reporting) (run result : Data) (told : ToldResult) → IsTold told result
+    → code_at reporting run told ≡ code_in reporting run result
+code_same reporting run result told is =
+    ap (λ text. code_by text (option_map (λ text. text.now) told.snippets.context)
+    (option_and_then position_number told.snippets.context_line) (line_at reporting run told.location))
+    (is.4.0 ∙ snippet_within (first_region result))
+    ∙ ap (λ text. code_by (snippet_in (codes "region") result) text
+    (option_and_then position_number told.snippets.context_line) (line_at reporting run told.location))
+    (is.4.1 ∙ snippet_within (first_context result))
+    ∙ ap (λ n. code_by (snippet_in (codes "region") result) (snippet_in (codes "contextRegion") result)
+    (option_and_then position_number n) (line_at reporting run told.location))
+    (is.4.2 ∙ number_within (codes "startLine") (first_context result))
+    ∙ ap (λ n. code_by (snippet_in (codes "region") result) (snippet_in (codes "contextRegion") result)
+    (option_and_then position_number (context_number result)) n)
+    (line_same reporting run result told.location is.3)
+
 -- ---- the message
 
 strings_same : (run result : Data) (r : RuleReference) → IsRuleReference r result → strings_at run r ≡ strings_of run result
@@ -144,10 +180,13 @@ pub whole_at : (reporting : Reporting) (run result : Data) (told : ToldResult) (
 unfolding finding_at finding_of
 whole_at reporting run result told level state is =
     rw (
+      name_same run result told.rule is.0,
+      code_same reporting run result told is,
       id_same run result told.rule is.0,
       message_same run result told is,
       column_same reporting run result told.location is.3,
       line_same reporting run result told.location is.3,
       path_same reporting run result told.location is.3,
+      exact_same reporting run result told.location is.3,
       help_same run result told.rule is.0,
     ) refl

@@ -4,6 +4,12 @@ pub mod BracketsMore
 pub mod ByHalves
 pub mod BytesOf
 pub mod CharsBack
+pub mod CodeExcerpts
+pub mod CodeLawful
+pub mod CodeLines
+pub mod CodeRows
+pub mod CodeWhole
+pub mod CodesTold
 pub mod EachFinding
 pub mod EmptiesPassed
 pub mod FirstChar

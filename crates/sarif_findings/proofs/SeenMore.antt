@@ -3,7 +3,8 @@ use Rattle.std.proofs.Common.{◌≡◌, ◌==◌, ℕ, zero, suc, Bool, true, f
 use mathlib.Core.Bool.{and-false}
 use Rattle.std.proofs.lemmas.Bool.{and_parts, and_from, or_from, or_parts}
 use Rattle.sarif_findings.specs.Shown.{is_concealed, plain, parted_signs, kept, shown_chars}
-use Rattle.sarif_findings.specs.ShownLaws.{is_seen, are_seen, has_two_signs}
+use Rattle.sarif_links.specs.Address.{has_two_signs}
+use Rattle.sarif_findings.specs.ShownLaws.{is_seen, are_seen}
 use Rattle.sarif_findings.specs.Shown.{most_characters}
 
 -- ---- no character is concealed
@@ -12,7 +13,7 @@ plain_by : (c : ℕ) (b : Bool) → is_concealed c ≡ b → is_seen (if b then 
 plain_by c true e = refl
 plain_by c false e = ap not e
 
-plain_seen : (c : ℕ) → is_seen (plain c) ≡ true
+pub plain_seen : (c : ℕ) → is_seen (plain c) ≡ true
 plain_seen c = plain_by c (is_concealed c) refl
 
 map_seen : (cs : List ℕ) → are_seen (map plain cs) ≡ true
@@ -30,7 +31,7 @@ parted_seen after (c ∷ cs) h =
     let parts = and_parts (is_seen c) (are_seen cs) h in
     parted_by (after && c == 35) c (parted_signs (c == 35) cs) parts.0 (parted_seen (c == 35) cs parts.1)
 
-kept_seen : (room : ℕ) (cs : List ℕ) → are_seen cs ≡ true → are_seen (kept room cs) ≡ true
+pub kept_seen : (room : ℕ) (cs : List ℕ) → are_seen cs ≡ true → are_seen (kept room cs) ≡ true
 unfolding kept
 kept_seen zero [] h = refl
 kept_seen (suc room) [] h = refl

@@ -6,7 +6,7 @@ use Rattle.sarif_findings.specs.Shown.{shown, kept, parted_signs, parted, plain}
 use Rattle.sarif_findings.specs.declared.shown_text.ShownText.{ShownText}
 use Rattle.sarif_findings.specs.Internal.ShownSoFar.{shown_with, kept_with, Keeps, SeparatesCharacter, TakesCharacters}
 
-kept-nil : (room : ℕ) → kept room [] ≡ []
+pub kept-nil : (room : ℕ) → kept room [] ≡ []
 unfolding kept
 kept-nil zero = refl
 kept-nil (suc room) = refl

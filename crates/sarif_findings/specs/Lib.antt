@@ -1,4 +1,6 @@
-pub mod Address
+pub mod Code
+pub mod CodeLaws
+pub mod CodeRows
 pub mod Finding
 pub mod Internal
 pub mod Links
@@ -8,5 +10,6 @@ pub mod Message
 pub mod PathOf
 pub mod Placeholders
 pub mod Reported
+pub mod RuleName
 pub mod Shown
 pub mod ShownLaws

@@ -1,7 +1,7 @@
 -- The finding of a result by what is read from it: how it refers to its rule and to its message, the arguments of the
 -- message, and its first location.
-use Rattle.std.specs.Prelude.{ℕ, List, [], Option, chars, codes, map, option_map, option_and_then, unwrap_or}
-use Rattle.std.specs.Option.{option_or}
+use Rattle.std.specs.Prelude.{ℕ, Bool, false, List, [], Option, chars, codes, map, option_map, option_and_then, unwrap_or}
+use Rattle.std.specs.Option.{option_map_or, option_or}
 use Rattle.serde_json.specs.Data.{Data}
 use Rattle.serde_json.specs.View.{view}
 use Rattle.sarif_model.specs.declared.first_location.FirstLocation.{FirstLocation}
@@ -11,14 +11,17 @@ use Rattle.sarif_model.specs.declared.references.RuleReference.{RuleReference}
 use Rattle.sarif_model.specs.Level.{is_at_least}
 use Rattle.sarif_model.specs.Members.{text_in}
 use Rattle.sarif_model.specs.Driver.{tool_name}
+use Rattle.sarif_findings.specs.declared.code.Code.{Code}
 use Rattle.sarif_findings.specs.declared.finding.Finding.{Finding}
 use Rattle.sarif_findings.specs.declared.reporting.Reporting.{Reporting}
 use Rattle.sarif_findings.specs.declared.told_result.ToldResult.{ToldResult}
+use Rattle.sarif_findings.specs.Code.{code_by}
 use Rattle.sarif_findings.specs.Links.{unlinked}
 use Rattle.sarif_findings.specs.Lookup.{artifact_uri, component_by, elements_in, position_number, rule_by}
 use Rattle.sarif_findings.specs.Message.{component_string, descriptor_string, strings_by}
 use Rattle.sarif_findings.specs.Placeholders.{filled}
-use Rattle.sarif_findings.specs.Reported.{link_of, only_with, or_no_message, shown_path}
+use Rattle.sarif_findings.specs.Reported.{is_exact_path, link_of, only_with, or_no_message, shown_path}
+use Rattle.sarif_findings.specs.RuleName.{name_in, shown_name}
 use Rattle.sarif_findings.specs.Shown.{shown}
 
 -- ---- the rule
@@ -49,6 +52,11 @@ help_uri_at run rule = option_and_then (text_in (codes "helpUri")) (descriptor_a
 
 abbrev pub help_at : Data → RuleReference → Option (List ℕ)
 help_at run rule = option_and_then link_of (help_uri_at run rule)
+
+-- the name of the rule, if it has one besides its id
+abbrev pub rule_name_at : Data → RuleReference → Option (List ℕ)
+rule_name_at run rule =
+    option_map shown_name (option_and_then (name_in (rule_id_at run rule)) (descriptor_at run rule))
 
 -- ---- the message
 
@@ -91,6 +99,11 @@ abbrev pub path_at : Reporting → Data → FirstLocation → Option (List ℕ)
 path_at reporting run location =
     option_and_then (shown_path reporting.roots) (uri_at run location)
 
+-- whether there is a path, and it is shown unchanged
+abbrev pub is_exact_at : Reporting → Data → FirstLocation → Bool
+is_exact_at reporting run location =
+    option_map_or (is_exact_path reporting.roots) (uri_at run location) false
+
 -- there is a line only with a path
 abbrev pub line_at : Reporting → Data → FirstLocation → Option ℕ
 line_at reporting run location =
@@ -100,6 +113,15 @@ line_at reporting run location =
 abbrev pub column_at : Reporting → Data → FirstLocation → Option ℕ
 column_at reporting run location =
     only_with (line_at reporting run location) (option_and_then position_number location.column)
+
+-- ---- the code
+
+abbrev pub code_at : Reporting → Data → ToldResult → Option Code
+code_at reporting run told =
+    code_by (option_map (λ text. text.now) told.snippets.region)
+    (option_map (λ text. text.now) told.snippets.context)
+    (option_and_then position_number told.snippets.context_line)
+    (line_at reporting run told.location)
 
 -- ---- the whole
 
@@ -112,8 +134,11 @@ finding_at reporting run told level state = record {
   state = state;
   message = or_no_message (shown (message_at run told));
   path = path_at reporting run told.location;
+  exact = is_exact_at reporting run told.location;
   line = line_at reporting run told.location;
   column = column_at reporting run told.location;
   help = help_at run told.rule;
+  rule_name = rule_name_at run told.rule;
+  code = code_at reporting run told;
   hit = is_at_least reporting.policy.fail_on level;
 }

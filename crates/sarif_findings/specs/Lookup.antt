@@ -118,3 +118,16 @@ position_in name result =
     option_and_then position_number
     (option_and_then (number_in name)
     (option_and_then (get (codes "region")) (physical_location result)))
+
+-- `snippet.text` of the region of that name
+abbrev pub snippet_in : List ℕ → Data → Option (List ℕ)
+snippet_in name result =
+    option_and_then (text_in (codes "text"))
+    (option_and_then (get (codes "snippet"))
+    (option_and_then (get name) (physical_location result)))
+
+-- the number at which the context region begins
+abbrev pub context_number : Data → Option ℕ
+context_number result =
+    option_and_then (number_in (codes "startLine"))
+    (option_and_then (get (codes "contextRegion")) (physical_location result))

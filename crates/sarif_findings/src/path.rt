@@ -1,15 +1,13 @@
 //! A URI read as a path.
-ghost use Rattle.std.specs.Prelude.{◌≡◌, ◌++◌, OnOk, IfOk, IfSome, IfNone, true, false, chars, drop};
+ghost use Rattle.std.specs.Prelude.{◌≡◌, ◌++◌, IfOk, IfSome, IfNone, true, false, chars, drop};
 ghost use Rattle.std.specs.Prelude.{length, nat_eq, option_map, if◌then◌else◌};
 ghost use Rattle.std.specs.List.{starts_with};
 ghost use Rattle.std.specs.Cow.{cow_str_bytes};
 ghost use Rattle.std.specs.Str.{is_utf8};
 ghost use Rattle.percent_encoding.specs.Percent.{percent_decode as decoded_bytes};
 ghost use Rattle.sarif_findings.specs.PathOf as said;
-ghost use Rattle.sarif_findings.specs.Internal.ShownSoFar.{TakesCharacters};
 
 use crate::first_char::begins_with;
-use crate::shown_text::ShownText;
 use percent_encoding::{DecodeError, percent_decode};
 use sarif_model::Text;
 use std::alloc::{AllocError, Global};
@@ -138,15 +136,10 @@ pub(crate) fn decode_or_keep(alloc: Global, uri: &str) -> Result<CowStr<'_, Glob
     Ok(CowStr::Borrowed(uri))
 }
 
-/// Shows a path without its root and without the `./` that it begins with then.
-pub(crate) fn push_path(
-    so_far: &mut ShownText,
-    roots: &[Text],
-    path: &str,
-) -> Result<(), AllocError>
-    ensures { OnOk result (TakesCharacters so_far.old so_far.new
-        (said.without_here (chars (said.without_root roots.now path.now)))) }
+/// A path without its root and without the `./` that it begins with then.
+pub(crate) fn bare_path<'a>(roots: &[Text], path: &'a str) -> &'a str
+    ensures { chars result.now
+        ≡ said.without_here (chars (said.without_root roots.now path.now)) }
 {
-    so_far.push_str(without_here(without_root(roots, path)))?;
-    Ok(())
+    without_here(without_root(roots, path))
 }

@@ -6,16 +6,18 @@ ghost use Rattle.sarif_findings.specs.Shown.{shown as text_shown};
 ghost use Rattle.sarif_findings.specs.Reported as said;
 ghost use Rattle.sarif_findings.specs.Internal.Subject.{IsDescribed};
 
-use crate::address::is_address;
 use crate::finding::Finding;
 use crate::lookup::{help_uri, rule_id};
 use crate::message::push_message;
 use crate::named_run::NamedRun;
 use crate::reporting::Reporting;
+use crate::rule_name::shown_rule_name;
 use crate::shown_text::{ShownText, shown_copy};
+use crate::snippets::code_of;
 use crate::spot::{ShownPlace, spot_of};
 use crate::subject::Subject;
 use crate::told_result::ToldResult;
+use sarif_links::is_address;
 use sarif_model::{Level, State, Text};
 use serde_json::Value;
 use std::alloc::{AllocError, Global};
@@ -77,7 +79,14 @@ pub fn finding_of(
     let rule = shown_copy(alloc, rule_id(&subject))?;
     let message = message_in(alloc, &subject)?;
     let help = help_in(alloc, &subject)?;
-    let ShownPlace { path, line, column } = spot_of(alloc, reporting, run, &told.location)?;
+    let rule_name = shown_rule_name(alloc, &subject)?;
+    let ShownPlace {
+        path,
+        exact,
+        line,
+        column,
+    } = spot_of(alloc, reporting, run, &told.location)?;
+    let code = code_of(alloc, &told.snippets, line)?;
     let hit = level.is_at_least(reporting.policy.fail_on);
     Ok(Finding {
         tool,
@@ -86,9 +95,12 @@ pub fn finding_of(
         state,
         message,
         path,
+        exact,
         line,
         column,
         help,
+        rule_name,
+        code,
         hit,
     })
 }

@@ -56,7 +56,7 @@ fn is_blank_letter(c: char) -> bool
 }
 
 /// Returns the character, or a space instead of a character that is not shown.
-fn plain(c: char) -> char
+pub(crate) fn plain(c: char) -> char
     ensures { result ≡ said.plain c }
 {
     if is_control(c) || is_unseen_mark(c) || is_blank_letter(c) {
@@ -95,18 +95,28 @@ pub(crate) struct ShownText {
 }
 
 impl ShownText {
-    ghost use Rattle.std.specs.Prelude.{◌<◌, ◌≤◌, length};
+    ghost use Rattle.std.specs.Prelude.{◌<◌, ◌≤◌, length, map};
     ghost use Rattle.std.specs.Bool.{OnTrue};
     ghost use Rattle.std.specs.List.{list_all};
-    ghost use Rattle.sarif_findings.specs.Internal.ShownSoFar.{shown_with, is_verbatim, TakesCharacters, Keeps, SeparatesCharacter};
+    ghost use Rattle.sarif_findings.specs.Internal.ShownSoFar.{kept_with, shown_with, is_verbatim, TakesCharacters, Keeps, SeparatesCharacter};
 
     pub(crate) fn new(alloc: Global) -> Result<ShownText, AllocError>
         ensures { IfOk result (λ made. (cs : List ℕ) → shown_with made cs ≡ said.shown cs) }
     {
+        ShownText::with_room(alloc, MOST_CHARACTERS)
+    }
+
+    /// An empty string, of which so many characters are kept.
+    pub(crate) fn with_room(alloc: Global, room: u32) -> Result<ShownText, AllocError>
+        ensures shown { IfOk result (λ made. (cs : List ℕ) → shown_with made cs
+            ≡ encode_utf8_all (said.kept room (said.parted_signs false (map said.plain cs)))) }
+        ensures kept { IfOk result
+            (λ made. (cs : List ℕ) → kept_with made cs ≡ encode_utf8_all (said.kept room cs)) }
+    {
         let text = String::with_capacity(alloc, FIRST_ROOM)?;
         Ok(ShownText {
             text,
-            room: MOST_CHARACTERS,
+            room,
             after_sign: false,
             full: false,
         })
@@ -120,7 +130,7 @@ impl ShownText {
     }
 
     /// Keeps a character that is shown unchanged, or ends the string.
-    fn keep(&mut self, c: char) -> Result<(), AllocError>
+    pub(crate) fn keep(&mut self, c: char) -> Result<(), AllocError>
         ensures { OnOk result ((cs : List ℕ) → Keeps self.old self.new c cs) }
     {
         if self.full {

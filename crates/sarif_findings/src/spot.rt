@@ -1,5 +1,6 @@
 //! Where a reported result is.
-ghost use Rattle.std.specs.Prelude.{◌≡◌, option_map, option_and_then, chars, string_bytes, IfOk};
+ghost use Rattle.std.specs.Prelude.{◌≡◌, ◌&&◌, ◌==◌, bytes_eq, option_map, option_and_then, chars, false, length, not, IfOk};
+ghost use Rattle.std.specs.Option.{option_map_or};
 ghost use Rattle.serde_json.specs.View.{view};
 ghost use Rattle.sarif_findings.specs.Located as located;
 ghost use Rattle.sarif_findings.specs.Lookup.{artifact_uri, position_number};
@@ -10,9 +11,9 @@ ghost use Rattle.sarif_findings.specs.Shown.{shown as text_shown};
 ghost use Rattle.sarif_model.specs.Members.{none_if_empty};
 
 use crate::named_run::NamedRun;
-use crate::path::{decode_or_keep, push_path};
+use crate::path::{bare_path, decode_or_keep};
 use crate::reporting::Reporting;
-use crate::shown_text::ShownText;
+use crate::shown_text::show_text;
 use sarif_model::{FirstLocation, Text};
 use std::alloc::{AllocError, Global};
 
@@ -20,34 +21,67 @@ use std::alloc::{AllocError, Global};
 #[derive(Drop)]
 pub(crate) struct ShownPlace {
     pub(crate) path: Option<Text>,
+    pub(crate) exact: bool,
     pub(crate) line: Option<u32>,
     pub(crate) column: Option<u32>,
 }
 
-/// A path as it is shown.
-fn text_of_path(alloc: Global, roots: &[Text], path: &str) -> Result<String, AllocError>
-    ensures { IfOk result (λ s. string_bytes s
-        ≡ text_shown (without_here (chars (without_root roots.now path.now)))) }
-{
-    let mut so_far = ShownText::new(alloc)?;
-    push_path(&mut so_far, roots, path)?;
-    Ok(so_far.finish())
+/// A path that is shown.
+#[derive(Drop)]
+struct ShownPath {
+    /// The path as it is shown, which isn't empty.
+    text: Text,
+    /// Whether it is shown unchanged.
+    exact: bool,
 }
 
-fn shown_path(alloc: Global, roots: &[Text], path: &str) -> Result<Option<Text>, AllocError>
-    ensures { IfOk result (λ o. o ≡ none_if_empty
-        (text_shown (without_here (chars (without_root roots.now path.now))))) }
+/// Whether this isn't empty, and is the path.
+fn is_same(shown: &str, path: &str) -> bool
+    ensures { result ≡ (not (length shown.now == 0) && bytes_eq shown.now path.now) }
 {
-    let shown = text_of_path(alloc, roots, path)?;
+    !shown.is_empty() && shown == path
+}
+
+/// Whether this is what is shown of a path that isn't empty, unchanged.
+fn is_exact(shown: &str, path: &str) -> bool
+    requires { shown.now ≡ text_shown (chars path.now) }
+    ensures { result ≡ said.is_exact (chars path.now) }
+{
+    is_same(shown, path)
+}
+
+/// What is shown of a path without its root.
+fn shown_bare(alloc: Global, path: &str) -> Result<Option<ShownPath>, AllocError>
+    ensures path { IfOk result (λ o. option_map (λ shown. shown.text) o
+        ≡ none_if_empty (text_shown (chars path.now))) }
+    ensures exact { IfOk result (λ o. option_map_or (λ shown. shown.exact) o false
+        ≡ said.is_exact (chars path.now)) }
+{
+    let shown = show_text(alloc, path)?;
     if shown.is_empty() {
         return Ok(None);
     }
-    Ok(Some(Text::from_string(shown)?))
+    let exact = is_exact(shown.as_str(), path);
+    let text = Text::from_string(shown)?;
+    Ok(Some(ShownPath { text, exact }))
+}
+
+/// What is shown of a path.
+fn shown_path(alloc: Global, roots: &[Text], path: &str) -> Result<Option<ShownPath>, AllocError>
+    ensures path { IfOk result (λ o. option_map (λ shown. shown.text) o ≡ none_if_empty
+        (text_shown (without_here (chars (without_root roots.now path.now))))) }
+    ensures exact { IfOk result (λ o. option_map_or (λ shown. shown.exact) o false
+        ≡ said.is_exact (without_here (chars (without_root roots.now path.now)))) }
+{
+    shown_bare(alloc, bare_path(roots, path))
 }
 
 /// A URI as it is shown as a path.
-fn shown_uri(alloc: Global, roots: &[Text], uri: &str) -> Result<Option<Text>, AllocError>
-    ensures { IfOk result (λ o. o ≡ said.shown_path roots.now uri.now) }
+fn shown_uri(alloc: Global, roots: &[Text], uri: &str) -> Result<Option<ShownPath>, AllocError>
+    ensures path { IfOk result
+        (λ o. option_map (λ shown. shown.text) o ≡ said.shown_path roots.now uri.now) }
+    ensures exact { IfOk result (λ o. option_map_or (λ shown. shown.exact) o false
+        ≡ said.is_exact_path roots.now uri.now) }
 {
     let path = decode_or_keep(alloc, uri)?;
     shown_path(alloc, roots, path.as_str())
@@ -67,9 +101,13 @@ fn shown_artifact(
     roots: &[Text],
     run: &NamedRun<'_>,
     index: Option<u64>,
-) -> Result<Option<Text>, AllocError>
-    ensures { IfOk result (λ o. o ≡ option_and_then (said.shown_path roots.now)
+) -> Result<Option<ShownPath>, AllocError>
+    ensures path { IfOk result (λ o. option_map (λ shown. shown.text) o
+        ≡ option_and_then (said.shown_path roots.now)
         (option_and_then (artifact_uri (view run.now)) index)) }
+    ensures exact { IfOk result (λ o. option_map_or (λ shown. shown.exact) o false
+        ≡ option_map_or (said.is_exact_path roots.now)
+        (option_and_then (artifact_uri (view run.now)) index) false) }
 {
     match artifact_path(run, index) {
         None => Ok(None),
@@ -83,9 +121,13 @@ fn path_of_location(
     roots: &[Text],
     run: &NamedRun<'_>,
     location: &FirstLocation<'_>,
-) -> Result<Option<Text>, AllocError>
-    ensures { IfOk result (λ o. o ≡ option_and_then (said.shown_path roots.now)
+) -> Result<Option<ShownPath>, AllocError>
+    ensures path { IfOk result (λ o. option_map (λ shown. shown.text) o
+        ≡ option_and_then (said.shown_path roots.now)
         (located.uri_at (view run.now) location.now)) }
+    ensures exact { IfOk result (λ o. option_map_or (λ shown. shown.exact) o false
+        ≡ option_map_or (said.is_exact_path roots.now)
+        (located.uri_at (view run.now) location.now) false) }
 {
     match location.uri {
         Some(uri) => shown_uri(alloc, roots, uri),
@@ -94,7 +136,7 @@ fn path_of_location(
 }
 
 /// A line or a column: an integer from 1 to 2^32 - 1.
-fn position(number: u64) -> Option<u32>
+pub(crate) fn position(number: u64) -> Option<u32>
     ensures { result ≡ position_number number }
 {
     if 1 <= number && number <= u32::MAX as u64 {
@@ -115,6 +157,17 @@ fn position_with<T>(beside: &Option<T>, number: Option<u64>) -> Option<u32>
     }
 }
 
+/// The path, and whether it is shown unchanged.
+fn parts_of(shown: Option<ShownPath>) -> (Option<Text>, bool)
+    ensures path { result.0 ≡ option_map (λ known. known.text) shown }
+    ensures exact { result.1 ≡ option_map_or (λ known. known.exact) shown false }
+{
+    match shown {
+        None => (None, false),
+        Some(ShownPath { text, exact }) => (Some(text), exact),
+    }
+}
+
 /// What a finding says about the place of a result of a run.
 pub(crate) fn spot_of(
     alloc: Global,
@@ -124,13 +177,21 @@ pub(crate) fn spot_of(
 ) -> Result<ShownPlace, AllocError>
     ensures path { IfOk result (λ spot. spot.path
         ≡ located.path_at reporting.now (view run.now) location.now) }
+    ensures exact { IfOk result (λ spot. spot.exact
+        ≡ located.is_exact_at reporting.now (view run.now) location.now) }
     ensures line { IfOk result (λ spot. spot.line
         ≡ located.line_at reporting.now (view run.now) location.now) }
     ensures column { IfOk result (λ spot. spot.column
         ≡ located.column_at reporting.now (view run.now) location.now) }
 {
-    let path = path_of_location(alloc, reporting.roots.as_slice(), run, location)?;
+    let shown = path_of_location(alloc, reporting.roots.as_slice(), run, location)?;
+    let (path, exact) = parts_of(shown);
     let line = position_with(&path, location.line);
     let column = position_with(&line, location.column);
-    Ok(ShownPlace { path, line, column })
+    Ok(ShownPlace {
+        path,
+        exact,
+        line,
+        column,
+    })
 }

@@ -7,9 +7,12 @@ ghost use Rattle.sarif_model.specs.Internal.FirstLocation as said;
 ghost use Rattle.sarif_model.specs.Internal.FirstLocation.{IsFirstLocation};
 ghost use Rattle.sarif_model.specs.Internal.References as references;
 ghost use Rattle.sarif_model.specs.Internal.References.{IsMessageReference, IsRuleReference};
+ghost use Rattle.sarif_findings.specs.Internal.SnippetsOf as snippets_of;
+ghost use Rattle.sarif_findings.specs.Internal.SnippetsOf.{IsSnippets};
 ghost use Rattle.sarif_findings.specs.Internal.Told.{IsTold};
 
 use crate::lookup::{elements_in, number_in, text_in};
+use crate::snippets::Snippets;
 use sarif_model::{FirstLocation, MessageReference, RuleReference};
 use serde_json::Value;
 
@@ -24,6 +27,8 @@ pub struct ToldResult<'r> {
     pub arguments: &'r [Value],
     /// The result's first location.
     pub location: FirstLocation<'r>,
+    /// The snippets of its first location.
+    pub snippets: Snippets<'r>,
 }
 
 /// `locations[0].physicalLocation` of a result.
@@ -71,6 +76,27 @@ fn first_location(found: &Value) -> FirstLocation<'_>
         artifact: number_within(artifact, "index"),
         line: number_within(region, "startLine"),
         column: number_within(region, "startColumn"),
+    }
+}
+
+/// The text of the snippet of a region.
+fn snippet_of(region: Option<&Value>) -> Option<&str>
+    ensures { option_map (λ text. text.now) result
+        ≡ snippets_of.snippet_of (option_map (λ v. view v.now) region.entry) }
+{
+    text_within(member_in(region, "snippet"), "text")
+}
+
+/// The snippets of the first location of a result.
+fn snippets_in(found: &Value) -> Snippets<'_>
+    ensures { IsSnippets result (view found.now) }
+{
+    let physical = physical_location(found);
+    let context = member_in(physical, "contextRegion");
+    Snippets {
+        region: snippet_of(member_in(physical, "region")),
+        context: snippet_of(context),
+        context_line: number_within(context, "startLine"),
     }
 }
 
@@ -136,5 +162,6 @@ pub(crate) fn told_of(found: &Value) -> ToldResult<'_>
         message: message_reference(found),
         arguments: arguments_of(found),
         location: first_location(found),
+        snippets: snippets_in(found),
     }
 }

@@ -5,6 +5,7 @@ use Rattle.serde_json.specs.View.{view}
 use Rattle.sarif_model.specs.Internal.FirstLocation.{IsFirstLocation}
 use Rattle.sarif_model.specs.Internal.References.{IsMessageReference, IsRuleReference, arguments_in}
 use Rattle.sarif_findings.specs.declared.told_result.ToldResult.{ToldResult}
+use Rattle.sarif_findings.specs.Internal.SnippetsOf.{IsSnippets}
 
 -- whether this was read from that result
 abbrev pub IsTold : ToldResult → Data → Type 0
@@ -13,3 +14,4 @@ IsTold told result =
     × IsMessageReference told.message result
     × (map view told.arguments.now ≡ arguments_in result)
     × IsFirstLocation told.location result
+    × IsSnippets told.snippets result

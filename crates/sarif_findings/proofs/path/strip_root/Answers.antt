@@ -1,4 +1,4 @@
-use Rattle.sarif_findings.proofs.PathMore.{stripped_is}
+use Rattle.sarif_links.proofs.Stripped.{stripped_is}
 use Rattle.sarif_findings.proofs.path.strip_root.Goals as goal
 
 pub returns : goal.returns
