@@ -1,7 +1,7 @@
 -- A finding depends on five members of its result, besides its level and its state.
-use Rattle.std.proofs.Common.{◌≡◌, ℕ, List, [], Option, Some, None, codes, refl, ap, ◌∙◌}
-use Rattle.std.specs.Prelude.{chars, is_some, option_and_then, unwrap_or, if◌then◌else◌}
-use Rattle.std.specs.Option.{option_or}
+use Rattle.std.proofs.Common.{◌≡◌, ℕ, false, List, [], Option, Some, None, codes, refl, ap, ◌∙◌}
+use Rattle.std.specs.Prelude.{chars, is_some, option_map, option_and_then, unwrap_or, if◌then◌else◌}
+use Rattle.std.specs.Option.{option_or, option_map_or}
 use Rattle.serde_json.specs.Data.{Data}
 use Rattle.serde_json.specs.Find.{get, as_str, as_array, as_number, as_u64}
 use Rattle.sarif_model.specs.declared.kinds.Level.{Level}
@@ -9,11 +9,13 @@ use Rattle.sarif_model.specs.declared.kinds.State.{State}
 use Rattle.sarif_model.specs.Members.{first_of, text_in}
 use Rattle.sarif_model.specs.Run.{elements_or_none}
 use Rattle.sarif_findings.specs.declared.reporting.Reporting.{Reporting}
-use Rattle.sarif_findings.specs.Lookup.{number_in, own_rule_id, index_of_rule, rule_index, component_by, component_of, driver_of, rule_by, rule_in, descriptor_of, descriptor_id, rule_id, elements_in, location_uri, physical_location, position_in, position_number}
+use Rattle.sarif_findings.specs.Lookup.{number_in, own_rule_id, index_of_rule, rule_index, component_by, component_of, driver_of, rule_by, rule_in, descriptor_of, descriptor_id, rule_id, elements_in, location_uri, physical_location, position_in, position_number, context_number, snippet_in}
 use Rattle.sarif_findings.specs.Message.{arguments_in, arguments_of, message_of, strings_of, text_by}
 use Rattle.sarif_findings.specs.Links.{unlinked}
 use Rattle.sarif_findings.specs.Placeholders.{filled}
-use Rattle.sarif_findings.specs.Reported.{help_in, link_of, path_in, shown_path, finding_of}
+use Rattle.sarif_findings.specs.Code.{code_by}
+use Rattle.sarif_findings.specs.RuleName.{name_in, shown_name}
+use Rattle.sarif_findings.specs.Reported.{code_in, help_in, is_exact_in, is_exact_path, line_in, link_of, only_with, path_in, rule_name_in, shown_path, finding_of}
 use Rattle.sarif_prepare.proofs.RunsAlike.{AreAlike, AreStringsAlike, run_same, text_same}
 
 pub record AreNamedAlike (x y : Data) : Type 0 where
@@ -67,6 +69,11 @@ help_same : (run x y : Data) → AreNamedAlike x y → help_in run x ≡ help_in
 help_same run x y same =
     ap (λ d. option_and_then link_of (option_and_then (text_in (codes "helpUri")) d)) (descriptor_same run x y same)
 
+name_same : (run x y : Data) → AreNamedAlike x y → rule_name_in run x ≡ rule_name_in run y
+name_same run x y same =
+    ap (λ id. option_map shown_name (option_and_then (name_in id) (descriptor_of run x))) (id_same run x y same)
+    ∙ ap (λ d. option_map shown_name (option_and_then (name_in (rule_id run y)) d)) (descriptor_same run x y same)
+
 -- ---- the message
 
 strings_same : (run x y : Data) → AreNamedAlike x y → strings_of run x ≡ strings_of run y
@@ -94,9 +101,40 @@ path_same reporting run x y same =
     ap (λ p. option_and_then (shown_path reporting.roots) (option_and_then (location_uri run) (option_and_then (get (codes "artifactLocation")) p)))
     (physical_same x y same)
 
+exact_same : (reporting : Reporting) (run x y : Data) → AreToldAlike x y → is_exact_in reporting run x ≡ is_exact_in reporting run y
+exact_same reporting run x y same =
+    ap (λ p. option_map_or (is_exact_path reporting.roots) (option_and_then (location_uri run) (option_and_then (get (codes "artifactLocation")) p)) false)
+    (physical_same x y same)
+
 position_same : (name : List ℕ) (x y : Data) → AreToldAlike x y → position_in name x ≡ position_in name y
 position_same name x y same =
     ap (λ p. option_and_then position_number (option_and_then (number_in name) (option_and_then (get (codes "region")) p))) (physical_same x y same)
+
+line_same : (reporting : Reporting) (run x y : Data) → AreToldAlike x y → line_in reporting run x ≡ line_in reporting run y
+line_same reporting run x y same =
+    ap (λ path. only_with path (position_in (codes "startLine") x)) (path_same reporting run x y same)
+    ∙ ap (only_with (path_in reporting run y)) (position_same (codes "startLine") x y same)
+
+-- ---- the code
+
+snippet_same : (name : List ℕ) (x y : Data) → AreToldAlike x y → snippet_in name x ≡ snippet_in name y
+snippet_same name x y same =
+    ap (λ p. option_and_then (text_in (codes "text")) (option_and_then (get (codes "snippet")) (option_and_then (get name) p))) (physical_same x y same)
+
+number_same : (x y : Data) → AreToldAlike x y → context_number x ≡ context_number y
+number_same x y same =
+    ap (λ p. option_and_then (number_in (codes "startLine")) (option_and_then (get (codes "contextRegion")) p)) (physical_same x y same)
+
+code_same : (reporting : Reporting) (run x y : Data) → AreToldAlike x y → code_in reporting run x ≡ code_in reporting run y
+code_same reporting run x y same =
+    ap (λ text. code_by text (snippet_in (codes "contextRegion") x) (option_and_then position_number (context_number x)) (line_in reporting run x))
+    (snippet_same (codes "region") x y same)
+    ∙ ap (λ text. code_by (snippet_in (codes "region") y) text (option_and_then position_number (context_number x)) (line_in reporting run x))
+    (snippet_same (codes "contextRegion") x y same)
+    ∙ ap (λ n. code_by (snippet_in (codes "region") y) (snippet_in (codes "contextRegion") y) (option_and_then position_number n) (line_in reporting run x))
+    (number_same x y same)
+    ∙ ap (code_by (snippet_in (codes "region") y) (snippet_in (codes "contextRegion") y) (option_and_then position_number (context_number y)))
+    (line_same reporting run x y same)
 
 -- ---- the whole
 
@@ -106,6 +144,9 @@ unfolding finding_of
 result_same reporting run x y level state same =
     let named = named_alike x y same in
     rw (
+      name_same run x y named,
+      code_same reporting run x y same,
+      exact_same reporting run x y same,
       id_same run x y named,
       message_same run x y named,
       path_same reporting run x y same,

@@ -1,7 +1,7 @@
 -- A finding depends on two members of its run: its tool and its artifacts.
-use Rattle.std.proofs.Common.{◌≡◌, ℕ, List, [], Option, Some, None, codes, refl, ap, ◌∙◌}
-use Rattle.std.specs.Prelude.{chars, is_some, slice_get, option_and_then, unwrap_or, if◌then◌else◌}
-use Rattle.std.specs.Option.{option_or}
+use Rattle.std.proofs.Common.{◌≡◌, ℕ, false, List, [], Option, Some, None, codes, refl, ap, ◌∙◌}
+use Rattle.std.specs.Prelude.{chars, is_some, slice_get, option_map, option_and_then, unwrap_or, if◌then◌else◌}
+use Rattle.std.specs.Option.{option_or, option_map_or}
 use Rattle.serde_json.specs.Data.{Data}
 use Rattle.serde_json.specs.Find.{get, as_str, as_array}
 use Rattle.sarif_model.specs.declared.kinds.Level.{Level}
@@ -12,11 +12,13 @@ use Rattle.sarif_model.specs.Members.{text_in}
 use Rattle.sarif_model.specs.Driver.{tool_name}
 use Rattle.sarif_read.proofs.Beside.{bare_get}
 use Rattle.sarif_findings.specs.declared.reporting.Reporting.{Reporting}
-use Rattle.sarif_findings.specs.Lookup.{element_at, own_rule_id, rule_in, driver_of, extension_index, component_by, component_of, descriptor_of, rule_id, artifact_uri, location_uri, physical_location, number_in}
+use Rattle.sarif_findings.specs.Lookup.{element_at, own_rule_id, rule_in, driver_of, extension_index, component_by, component_of, descriptor_of, rule_id, artifact_uri, location_uri, physical_location, position_in, position_number, context_number, snippet_in, number_in}
 use Rattle.sarif_findings.specs.Message.{arguments_of, component_string, descriptor_string, looked_up, message_of, strings_of, text_by}
 use Rattle.sarif_findings.specs.Links.{unlinked}
 use Rattle.sarif_findings.specs.Placeholders.{filled}
-use Rattle.sarif_findings.specs.Reported.{help_in, link_of, path_in, shown_path, finding_of}
+use Rattle.sarif_findings.specs.Code.{code_by}
+use Rattle.sarif_findings.specs.RuleName.{name_in, shown_name}
+use Rattle.sarif_findings.specs.Reported.{code_in, help_in, is_exact_in, is_exact_path, line_in, link_of, only_with, path_in, rule_name_in, shown_path, finding_of}
 
 -- two runs have the same tool and the same artifacts
 pub record AreAlike (a b : Data) : Type 0 where
@@ -47,6 +49,11 @@ help_same : (a b x : Data) → AreAlike a b → help_in a x ≡ help_in b x
 help_same a b x same =
     ap (λ d. option_and_then link_of (option_and_then (text_in (codes "helpUri")) d)) (descriptor_same a b x same)
 
+name_same : (a b x : Data) → AreAlike a b → rule_name_in a x ≡ rule_name_in b x
+name_same a b x same =
+    ap (λ id. option_map shown_name (option_and_then (name_in id) (descriptor_of a x))) (rule_same a b x same)
+    ∙ ap (λ d. option_map shown_name (option_and_then (name_in (rule_id b x)) d)) (descriptor_same a b x same)
+
 -- ---- the place
 
 artifact_same : (a b : Data) (o : Option ℕ) → AreAlike a b → option_and_then (artifact_uri a) o ≡ option_and_then (artifact_uri b) o
@@ -63,6 +70,19 @@ location_same a b (Some location) same =
 path_same : (reporting : Reporting) (a b x : Data) → AreAlike a b → path_in reporting a x ≡ path_in reporting b x
 path_same reporting a b x same =
     ap (option_and_then (shown_path reporting.roots)) (location_same a b (option_and_then (get (codes "artifactLocation")) (physical_location x)) same)
+
+exact_same : (reporting : Reporting) (a b x : Data) → AreAlike a b → is_exact_in reporting a x ≡ is_exact_in reporting b x
+exact_same reporting a b x same =
+    ap (λ uri. option_map_or (is_exact_path reporting.roots) uri false)
+    (location_same a b (option_and_then (get (codes "artifactLocation")) (physical_location x)) same)
+
+line_same : (reporting : Reporting) (a b x : Data) → AreAlike a b → line_in reporting a x ≡ line_in reporting b x
+line_same reporting a b x same = ap (λ path. only_with path (position_in (codes "startLine") x)) (path_same reporting a b x same)
+
+code_same : (reporting : Reporting) (a b x : Data) → AreAlike a b → code_in reporting a x ≡ code_in reporting b x
+code_same reporting a b x same =
+    ap (code_by (snippet_in (codes "region") x) (snippet_in (codes "contextRegion") x) (option_and_then position_number (context_number x)))
+    (line_same reporting a b x same)
 
 -- ---- the message
 
@@ -105,7 +125,16 @@ pub run_same : (reporting : Reporting) (a b x : Data) (level : Level) (state : S
     → finding_of reporting a x level state ≡ finding_of reporting b x level state
 unfolding finding_of
 run_same reporting a b x level state same =
-    rw (tool_same a b same, rule_same a b x same, message_same a b x same, path_same reporting a b x same, help_same a b x same) refl
+    rw (
+      name_same a b x same,
+      code_same reporting a b x same,
+      exact_same reporting a b x same,
+      tool_same a b same,
+      rule_same a b x same,
+      message_same a b x same,
+      path_same reporting a b x same,
+      help_same a b x same,
+    ) refl
 
 pub bare_alike : (run : Data) → AreAlike (bare run) run
 bare_alike run = record {

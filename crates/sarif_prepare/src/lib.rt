@@ -14,6 +14,7 @@ mod matched;
 mod parts_of_runs;
 mod preparing;
 mod run_parts;
+mod snippets;
 mod telling;
 mod told;
 mod unused;

@@ -15,6 +15,7 @@ use crate::asked::Asked;
 use crate::baselines::Baselines;
 use crate::halves::Half;
 use crate::left::absent_states;
+use crate::snippets::snippets_in;
 use crate::told::{ReportedResult, ReportedRun};
 use sarif_findings::{Finding, NamedRun, Reporting, ToldResult, finding_of};
 use sarif_model::State;
@@ -118,6 +119,7 @@ fn tell(
         message: message.reference,
         arguments: message.arguments.as_slice(),
         location: run.opened.first_location(told.seq),
+        snippets: snippets_in(run.opened.node(told.seq)),
     };
     let named = &run.named;
     finding_of(alloc, reporting, named, &result, told.level, told.state)
