@@ -15,6 +15,7 @@ same_facts request merged facts are = λ i. record {
   count = count_at (are.counts i);
   policy = request.options.policy;
   show = request.show;
+  link = request.link;
   findings = (are.findings i).items;
   without = are.without i;
   unused = are.unused i;

@@ -103,6 +103,7 @@ fn reports_of<W, T: Threads + Sync>(
         counts: facts.counts,
         policy: &request.options.policy,
         show: request.show,
+        link: request.link.as_ref(),
         findings: facts.findings.as_slice(),
         without: facts.without,
         unused: facts.unused,

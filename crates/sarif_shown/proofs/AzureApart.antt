@@ -13,7 +13,8 @@ use Rattle.sarif_model.specs.Level.{level_name}
 use Rattle.sarif_model.specs.State.{state_name}
 use Rattle.sarif_findings.specs.declared.finding.Finding.{Finding}
 use Rattle.sarif_findings.specs.Shown.{shown_chars}
-use Rattle.sarif_findings.specs.ShownLaws.{is_seen, are_seen, has_two_signs}
+use Rattle.sarif_links.specs.Address.{has_two_signs}
+use Rattle.sarif_findings.specs.ShownLaws.{is_seen, are_seen}
 use Rattle.sarif_findings.proofs.HighBytes.{high_apart, char_kept}
 use Rattle.sarif_findings.proofs.SeenMore.{shown_seen, shown_apart}
 use Rattle.sarif_findings.proofs.ToldFindings.{IsShown, IsPath, IsTold, all_told}

@@ -20,7 +20,8 @@ use Rattle.sarif_findings.specs.declared.reporting.Reporting.{Reporting}
 use Rattle.sarif_findings.specs.Finding.{spot_text, place, place_path, numbered, begins_with_colon}
 use Rattle.sarif_findings.specs.Reported.{reported_of}
 use Rattle.sarif_findings.specs.Shown.{shown_chars}
-use Rattle.sarif_findings.specs.ShownLaws.{is_seen, are_seen, has_two_signs}
+use Rattle.sarif_links.specs.Address.{has_two_signs}
+use Rattle.sarif_findings.specs.ShownLaws.{is_seen, are_seen}
 use Rattle.sarif_shown.specs.TextReport.{text_lines_of, text_line, bracketed}
 use Rattle.sarif_shown.specs.TextLaws.{has_colon_line, AreLines, IsTextOfLines}
 use Rattle.sarif_findings.proofs.SeenMore.{shown_seen, shown_apart}

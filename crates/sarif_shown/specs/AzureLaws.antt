@@ -2,7 +2,8 @@
 use Rattle.std.specs.Prelude.{◌≡◌, ℕ, ◌+◌, Bool, true, false, not, ◌||◌, ◌==◌, List, [], ◌∷◌, ◌++◌, Option, Some, None, codes, length, flat_map, encode_utf8_all, if◌then◌else◌}
 use Rattle.std.specs.List.{AllByRecursion}
 use Rattle.sarif_findings.specs.declared.finding.Finding.{Finding}
-use Rattle.sarif_findings.specs.ShownLaws.{are_seen, has_two_signs}
+use Rattle.sarif_links.specs.Address.{has_two_signs}
+use Rattle.sarif_findings.specs.ShownLaws.{are_seen}
 
 -- ---- lines
 

@@ -16,6 +16,8 @@ pub record Facts : Type 0 where
   pub policy : Policy
   -- which of the reported results are shown
   pub show : Show
+  -- the template of the links of places, if they are linked
+  pub link : Option (List ℕ)
   -- the shown results, in the order of the log
   pub findings : List Finding
   -- how many input runs have no results
@@ -31,6 +33,7 @@ facts_of told = record {
   count = count_at told.counts.now;
   policy = told.policy.now;
   show = told.show;
+  link = option_map (λ link. link.now) told.link;
   findings = told.findings.now;
   without = told.without;
   unused = told.unused;

@@ -1,7 +1,7 @@
 -- Properties of messages and paths, for any strings of a log. A string is a list of characters here.
 use Rattle.std.specs.Prelude.{◌≡◌, ℕ, Bool, true, false, ◌&&◌, ◌||◌, ◌==◌, List, [], ◌∷◌, chars, IfSome}
+use Rattle.sarif_links.specs.Address.{is_address}
 use Rattle.sarif_findings.specs.declared.finding.Finding.{Finding}
-use Rattle.sarif_findings.specs.Address.{is_address}
 use Rattle.sarif_findings.specs.PathOf.{begins_here}
 use Rattle.sarif_findings.specs.Placeholders.{first_is}
 

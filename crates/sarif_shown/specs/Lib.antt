@@ -8,6 +8,7 @@ pub mod FindingLaws
 pub mod GithubLaws
 pub mod GithubReport
 pub mod Internal
+pub mod Linked
 pub mod Listed
 pub mod ListedLaws
 pub mod Sentences

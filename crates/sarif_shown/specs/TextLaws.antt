@@ -1,7 +1,8 @@
 -- Properties of the text report. A string is a list of characters here.
 use Rattle.std.specs.Prelude.{◌≡◌, ℕ, Bool, true, false, ◌&&◌, ◌||◌, ◌==◌, List, [], ◌∷◌, encode_utf8_all}
 use Rattle.std.specs.List.{count_by, list_all}
-use Rattle.sarif_findings.specs.ShownLaws.{is_seen, has_two_signs}
+use Rattle.sarif_links.specs.Address.{has_two_signs}
+use Rattle.sarif_findings.specs.ShownLaws.{is_seen}
 
 -- whether a line begins with a colon, including the first if a line begins there
 abbrev pub has_colon_line : Bool → List ℕ → Bool

@@ -7,6 +7,7 @@ mod count_row;
 mod escaping;
 mod github_lines;
 mod laws;
+mod linked;
 mod listing;
 mod place;
 mod sentences;
@@ -26,6 +27,7 @@ pub use laws::{
     shown_signs_stand_apart, shown_texts_are_seen, terminals_show_the_hits,
     text_reports_have_a_line_a_result,
 };
+pub use linked::place_link;
 pub use listing::{list_findings, push_hits, push_others};
 pub use place::{push_numbered, push_path, push_place};
 pub use sentences::{

@@ -1,6 +1,7 @@
 //! The input of reports.
 use sarif_counts::{Counts, Life};
 use sarif_findings::{Finding, Show};
+use sarif_links::Template;
 use sarif_options::Policy;
 use std::hash::RandomState;
 
@@ -13,6 +14,8 @@ pub struct ReportInput<'a> {
     pub policy: &'a Policy,
     /// Which of the reported results are shown.
     pub show: Show,
+    /// How places are linked, if they are.
+    pub link: Option<&'a Template>,
     /// The findings of the shown results, in the order of the merged log.
     pub findings: &'a [Finding],
     /// How many input runs have no results.

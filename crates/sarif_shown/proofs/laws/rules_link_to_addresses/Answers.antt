@@ -1,4 +1,5 @@
-use Rattle.sarif_shown.proofs.AddressSigns.{all_linked, scheme, signs}
+use Rattle.sarif_links.proofs.AddressSigns.{scheme, signs}
+use Rattle.sarif_shown.proofs.AddressSigns.{all_linked}
 use Rattle.sarif_shown.proofs.laws.rules_link_to_addresses.Goals as goal
 
 pub returns-clause-links : goal.returns-clause-links
