@@ -78,6 +78,7 @@ arguments =
     ∷ argument (codes "out") Needed
     ∷ argument (codes "root") Many
     ∷ with_default (codes "all") (argument (codes "show") Once)
+    ∷ argument (codes "link") Once
     ∷ argument (codes "accept") Flag
     ∷ argument (codes "prune") Flag
     ∷ argument (codes "reason") Once

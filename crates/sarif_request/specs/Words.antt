@@ -1,5 +1,5 @@
 -- What the arguments of the command line request, and the result if they make no request.
-use Rattle.std.specs.Prelude.{◌≡◌, ◌≢◌, ◌==◌, ℕ, Bool, true, false, is_some, List, [], ◌∷◌, flat_map, Option, Some, None, Result, Ok, Err, unwrap_or, option_and_then, codes, bytes_eq, min, max, ◌<◌, ◌^◌, ◌⊎◌, ⊤, if◌then◌else◌}
+use Rattle.std.specs.Prelude.{◌≡◌, ◌≢◌, ◌==◌, ℕ, Bool, true, false, is_some, List, [], ◌∷◌, flat_map, Option, Some, None, Result, Ok, Err, unwrap_or, option_and_then, option_map, codes, bytes_eq, min, max, ◌<◌, ◌^◌, ◌⊎◌, ⊤, if◌then◌else◌}
 use Rattle.std.specs.Borrow.{Bor}
 use Rattle.std.specs.Option.{option_map_or}
 use Rattle.std.specs.Str.Parse.{IsNumeral, digits_value, without_leading_plus}
@@ -16,6 +16,7 @@ use Rattle.sarif_options.specs.declared.upkeep.Knowing.{Knowing}
 use Rattle.sarif_options.specs.declared.upkeep.Knowing.TheVariants.{Adopted, Matched}
 use Rattle.sarif_options.specs.declared.upkeep.Renewal.{Renewal}
 use Rattle.sarif_options.specs.Policy.{default_policy}
+use Rattle.sarif_links.specs.Template.{template_of}
 use Rattle.sarif_findings.specs.declared.reporting.Show.{Show}
 use Rattle.sarif_findings.specs.declared.reporting.Show.TheVariants.{All}
 use Rattle.sarif_reports.specs.declared.report.Report.{Report}
@@ -107,6 +108,12 @@ states_in rows =
 abbrev pub show_in : List Row → Option Show
 show_in rows = option_map_or show_named (first_of (codes "show") rows) (Some All)
 
+-- how places are linked, if the template is one; they aren't if there is none
+abbrev pub link_in : List Row → Option (Option Text)
+link_in rows =
+    option_map_or (λ text. option_map Some (template_of text)) (first_of (codes "link") rows)
+    (Some None)
+
 -- an output is requested if its option has a value, which is the name of its file
 abbrev pub wanted_if : Report → Option Text → List (RequestedOutput Text)
 wanted_if report None = []
@@ -164,6 +171,7 @@ pub record AsksFor (rows : List Row) (request : Request) : Type 0 where
   pub reports : request.reports.items ≡ reports_in rows
   pub roots : request.roots.items ≡ values_of (codes "root") rows
   pub show : show_in rows ≡ Some request.show
+  pub link : link_in rows ≡ Some request.link
   pub explain : request.explain ≡ is_set (codes "explain") rows
   pub screen : request.screen ≡ None
   pub renewal : IsRenewal rows request.upkeep.renewal
@@ -214,6 +222,11 @@ HaveNoStates app words = (fault_of app words ≡ []) × (states_in (matches_of a
 abbrev pub HaveNoShow : App → List Text → Type 0
 HaveNoShow app words = (fault_of app words ≡ []) × (show_in (matches_of app words) ≡ None)
 
+-- the arguments are valid, but the template of links is none
+abbrev pub HaveNoTemplate : App → List Text → Type 0
+HaveNoTemplate app words =
+    (fault_of app words ≡ []) × (link_in (matches_of app words) ≡ None)
+
 -- an error that says so, or that memory ran out
 abbrev pub IsUsageOrOutOfMemory : WordsFault → Type 0
 IsUsageOrOutOfMemory (Usage text) = ⊤
@@ -226,13 +239,14 @@ abbrev pub IsFaultOf : List Text → WordsFault → Type 0
 IsFaultOf words (Usage text) = (levels : Bor (List (Bor Text))) × AreLevels levels
     × (((k : ErrorKind) × IsAmong k (fault_of (program levels) words) × (¬ IsAsked k))
     ⊎ (HaveNoStates (program levels) words ⊎ (HaveNoShow (program levels) words
-    ⊎ (HaveMisfit (program levels) words ⊎ HaveClash (program levels) words))))
+    ⊎ (HaveNoTemplate (program levels) words
+    ⊎ (HaveMisfit (program levels) words ⊎ HaveClash (program levels) words)))))
 IsFaultOf words (Help text) = (levels : Bor (List (Bor Text))) × AreLevels levels
     × (k : ErrorKind) × IsAmong k (fault_of (program levels) words) × IsAsked k
 IsFaultOf words OutOfMemory = ⊤
 
--- a request is returned only if the arguments are valid, they list states and name what reports show, their options go
--- together and no names in them clash, and it is what they request
+-- a request is returned only if the arguments are valid, they list states, name what reports show and link places by a
+-- template if they do, their options go together and no names in them clash, and it is what they request
 abbrev pub GivesRequest : List Text → Result Request WordsFault → Type 0
 GivesRequest words (Ok request) = (levels : Bor (List (Bor Text))) × AreLevels levels
     × (fault_of (program levels) words ≡ []) × AsksFor (matches_of (program levels) words) request

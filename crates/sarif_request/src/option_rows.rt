@@ -80,7 +80,7 @@ pub fn is_date(kind: OptionKind) -> bool {
     kind == DATE
 }
 
-static ROWS: [OptionRow; 23] = [
+static ROWS: [OptionRow; 24] = [
     OptionRow {
         id: "log",
         value: "LOG",
@@ -205,6 +205,15 @@ static ROWS: [OptionRow; 23] = [
         group: Group::Outputs,
         kind: OptionKind::Once,
         default: Some("all"),
+    },
+    OptionRow {
+        id: "link",
+        value: "TEMPLATE",
+        help: "Link places in Markdown. TEMPLATE is an address with {path} and {line},\n\
+            for example https://host/repo/blob/SHA/{path}#L{line}",
+        group: Group::Outputs,
+        kind: OptionKind::Once,
+        default: None,
     },
     OptionRow {
         id: "accept",

@@ -2,6 +2,7 @@
 
 use crate::wanted::RequestedOutput;
 use sarif_findings::Show;
+use sarif_links::Template;
 use sarif_model::Text;
 use sarif_options::{Options, Upkeep};
 use sarif_shown::Screen;
@@ -25,6 +26,8 @@ pub struct Request {
     pub roots: Vec<Text>,
     /// Which of the reported results reports show.
     pub show: Show,
+    /// How places in reports are linked, if they are.
+    pub link: Option<Template>,
     /// Whether errors are explained, and notes follow a merge.
     pub explain: bool,
     /// How standard output shows the hits, if it does.

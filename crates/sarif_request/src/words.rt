@@ -1,10 +1,11 @@
 //! Reading the arguments of the command line.
-ghost use Rattle.std.specs.Prelude.{◌≡◌, ◌↔◌, ◌++◌, IfOk, IsTrue, OnOk, [], Some, map, unwrap_or, string_bytes, option_and_then, codes};
+ghost use Rattle.std.specs.Prelude.{◌≡◌, ◌↔◌, ◌++◌, IfOk, IsTrue, OnOk, [], Some, map, unwrap_or, string_bytes, option_and_then, option_map, codes};
 ghost use Rattle.clap.specs.Words.{kind_of, rows_of, found_of, first_of, one_of};
 ghost use Rattle.sarif_model.specs.Level.{level_named};
 ghost use Rattle.sarif_options.specs.Policy.{default_policy};
 ghost use Rattle.sarif_request.specs.Words.{words_status, ReportsError, IsAsked, AsksFor, GivesRequest, IsReadNumber, IsReadOr, IsUsageOrOutOfMemory, IsVersion};
-ghost use Rattle.sarif_request.specs.Words.{fail_on_in, is_set, reports_in, show_in, states_in, values_of};
+ghost use Rattle.sarif_links.specs.Template.{template_of};
+ghost use Rattle.sarif_request.specs.Words.{fail_on_in, is_set, link_in, reports_in, show_in, states_in, values_of};
 ghost use Rattle.sarif_reports.specs.Report.{report_name};
 ghost use Rattle.sarif_request.specs.Words.{AreGiven, IsRenewal, is_given, known_in, wanted_if};
 ghost use Rattle.sarif_request.specs.Words as said;
@@ -20,6 +21,7 @@ use crate::wanted::RequestedOutput;
 use clap::ArgMatches;
 use clap::error::ErrorKind;
 use sarif_findings::Show;
+use sarif_links::Template;
 use sarif_match::MatchingVersion;
 use sarif_model::{Level, MOST_WORKERS, Sequence, Text};
 use sarif_options::{Checks, Knowing, Options, Policy, Renewal, States, Upkeep};
@@ -78,7 +80,8 @@ pub fn plain_words(alloc: Global) -> Result<Vec<String>, AllocError>
 
 /// Returns the request of the arguments after the program's name. The tables of the merge hash with `seed`.
 /// Returns `Usage` if the arguments are invalid, their list of states is none, what reports are to show has no name,
-/// options in them don't go together or names in them clash; `Help` if they request the help or the version; `OutOfMemory` if memory runs out.
+/// their template of links is none, options in them don't go together or names in them clash; `Help` if they request
+/// the help or the version; `OutOfMemory` if memory runs out.
 pub fn read_words(alloc: Global, seed: RandomState, words: &[String]) -> Result<Request, WordsFault>
     ensures { GivesRequest (map string_bytes words.now) result }
 {
@@ -91,10 +94,14 @@ pub fn read_words(alloc: Global, seed: RandomState, words: &[String]) -> Result<
             let Some(show) = named_show(&matches) else {
                 return Err(usage_of(told_of(alloc, NO_SHOW)));
             };
+            let linked = named_link(alloc, &matches)?;
+            let Some(link) = linked else {
+                return Err(usage_of(told_of(alloc, NO_TEMPLATE)));
+            };
             if let Some(misfit) = misfit_of(&given_of(&matches)) {
                 return Err(usage_of(told_of(alloc, misfit.sentence())));
             }
-            let request = request_of(alloc, seed, &matches, states, show)?;
+            let request = request_of(alloc, seed, &matches, states, show, link)?;
             let found = clash_of(alloc, &request)?;
             if let Some(clash) = found {
                 return Err(usage_of(told_clash(alloc, clash, &request, words)));
@@ -111,6 +118,11 @@ const NO_STATES: &str = "invalid value for '--states <LIST>': expected new, upda
 
 /// What is wrong with a name of what reports show.
 const NO_SHOW: &str = "invalid value for '--show <WHICH>': expected hits or all";
+
+/// What is wrong with a template of links.
+const NO_TEMPLATE: &str = "invalid value for '--link <TEMPLATE>': expected https:// or http://, a \
+    host, /, and characters of an address with {path} once, for example \
+    https://host/repo/blob/SHA/{path}#L{line}";
 
 /// Returns a message about the arguments as the parser reports a mistake.
 fn usage_of(told: Result<Text, AllocError>) -> WordsFault
@@ -174,9 +186,11 @@ fn request_of(
     matches: &ArgMatches<'_>,
     states: States,
     show: Show,
+    link: Option<Template>,
 ) -> Result<Request, AllocError>
     requires listed { states_in (rows_of (found_of matches.now)) ≡ Some states }
     requires named { show_in (rows_of (found_of matches.now)) ≡ Some show }
+    requires linked { link_in (rows_of (found_of matches.now)) ≡ Some link }
     ensures { IfOk result (AsksFor (rows_of (found_of matches.now))) }
 {
     let logs = names_of(alloc, matches, "log")?;
@@ -205,6 +219,7 @@ fn request_of(
         reports,
         roots,
         show,
+        link,
         explain: is_set(matches, "explain"),
         screen: None,
         upkeep,
@@ -460,6 +475,30 @@ fn named_show(matches: &ArgMatches<'_>) -> Option<Show>
     match matches.get_str("show") {
         Some(name) => show_named(name),
         None => Some(Show::All),
+    }
+}
+
+/// Returns how places are linked, or `None` if the template of links is none.
+#[tactic(auto, using(crate::proofs::Rows::first_in_rows))]
+fn named_link(
+    alloc: Global,
+    matches: &ArgMatches<'_>,
+) -> Result<Option<Option<Template>>, AllocError>
+    ensures { IfOk result (λ link. link ≡ link_in (rows_of (found_of matches.now))) }
+{
+    match matches.get_str("link") {
+        Some(text) => link_by(alloc, text),
+        None => Ok(Some(None)),
+    }
+}
+
+/// Returns the links that this template makes, or `None` if it is none.
+fn link_by(alloc: Global, text: &str) -> Result<Option<Option<Template>>, AllocError>
+    ensures { IfOk result (λ link. link ≡ option_map Some (template_of text.now)) }
+{
+    match Template::parse(alloc, text)? {
+        Some(template) => Ok(Some(Some(template))),
+        None => Ok(None),
     }
 }
 

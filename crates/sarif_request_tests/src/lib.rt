@@ -5,4 +5,6 @@
 #[cfg(test)]
 mod asking;
 #[cfg(test)]
+mod linking;
+#[cfg(test)]
 mod terminal;
