@@ -1,3 +1,4 @@
+pub mod AddressRows
 pub mod ArrayRead
 pub mod CasesMore
 pub mod GitlabMore
@@ -9,3 +10,4 @@ pub mod NamesApart
 pub mod RowsApart
 pub mod SuitesMore
 pub mod TableRows
+pub mod Tabled

@@ -1,5 +1,5 @@
 -- The length of the report in Markdown.
-use Rattle.std.proofs.Common.{◌==◌, ◌<◌, ◌≤◌, ◌+◌, ◌^◌, ◌++◌, ℕ, Bool, true, false, List, [], ◌∷◌, codes, decimal, flat_map, length, length-append, append_assoc, if◌then◌else◌, subst, sym, ◌∙◌, arith}
+use Rattle.std.proofs.Common.{◌==◌, ◌<◌, ◌≤◌, ◌+◌, ◌^◌, ◌++◌, ℕ, Bool, true, false, List, [], ◌∷◌, Option, codes, decimal, flat_map, length, length-append, append_assoc, if◌then◌else◌, subst, sym, ◌∙◌, arith}
 use Rattle.std.proofs.lemmas.Fmt.{length-decimal-le}
 use Rattle.sarif_model.specs.declared.kinds.Level.{Level}
 use Rattle.sarif_model.specs.declared.kinds.State.{State}
@@ -22,7 +22,7 @@ use Rattle.sarif_findings.specs.declared.finding.Finding.{Finding}
 use Rattle.sarif_shown.specs.CountRow.{row_begin, row_end}
 use Rattle.sarif_shown.specs.Facts.{Facts}
 use Rattle.sarif_reports.specs.MarkdownLaws.{AreSmall}
-use Rattle.sarif_reports.specs.MarkdownReport.{accept_line, count_row, counts_table, heading, in_table, last_lines, left_out, line_if, markdown_of, notes, others_line, paragraph, result_row, results_table, table_of, unshown_line}
+use Rattle.sarif_reports.specs.MarkdownReport.{accept_line, count_row, counts_table, heading, in_table, last_lines, left_out, line_if, markdown_of, notes, others_line, paragraph, results_table, row_text, table_of, unshown_line}
 use Rattle.sarif_shown.specs.Sentences.{accept_text, counted, entries_text, gate_end, gate_text, hits_text, more_hits, more_of_both, more_others, more_text, runs_text, unshown_text}
 use Rattle.sarif_shown.specs.Unshown.{reported_number, unshown_number}
 use Rattle.sarif_findings.specs.declared.reporting.Show.{Show}
@@ -153,17 +153,17 @@ counts_few count small =
 
 -- ---- the whole report
 
-table_few : (fs : List Finding) → length fs < 2 ^ 64 → length (table_of fs) ≤ 60210
-table_few fs small =
-    let parts = results_parted fs in
+table_few : (link : Option (List ℕ)) (fs : List Finding) → length fs < 2 ^ 64 → length (table_of link fs) ≤ 60210
+table_few link fs small =
+    let parts = results_parted link fs in
     two 100 60110 (codes "\n| hit | level | place | rule | message | tool | state |\n|---|---|---|---|---|---|---|\n")
-    (flat_map result_row (in_table fs) ++ paragraph (others_line (left_out fs)))
-    (omega arith) (two 60000 110 (flat_map result_row (in_table fs)) (paragraph (others_line (left_out fs))) (table_fits fs)
-    (let more = paragraph_few 101 (others_line (left_out fs)) (others_few (left_out fs) (omega (arith, parts, small))) in omega (arith, more)))
+    (flat_map (row_text link) (in_table link fs) ++ paragraph (others_line (left_out link fs)))
+    (omega arith) (two 60000 110 (flat_map (row_text link) (in_table link fs)) (paragraph (others_line (left_out link fs))) (table_fits link fs)
+    (let more = paragraph_few 101 (others_line (left_out link fs)) (others_few (left_out link fs) (omega (arith, parts, small))) in omega (arith, more)))
 
-results_by : (b : Bool) (fs : List Finding) → length fs < 2 ^ 64 → length (if b then [] else table_of fs) ≤ 60210
-results_by true fs small = omega arith
-results_by false fs small = table_few fs small
+results_by : (b : Bool) (link : Option (List ℕ)) (fs : List Finding) → length fs < 2 ^ 64 → length (if b then [] else table_of link fs) ≤ 60210
+results_by true link fs small = omega arith
+results_by false link fs small = table_few link fs small
 
 -- at most sixteen of the counts are hits
 side_hits : (b : Bool) (n : ℕ) → n < 2 ^ 32 → count_if b n < 2 ^ 32
@@ -201,7 +201,7 @@ report_few facts small =
     let unshown = unshown_number facts.show facts.count facts.policy in
     let few = all_hits facts.count facts.policy small.counts in
     let ends : List ℕ = last_lines unshown hits in
-    let results : List ℕ = results_table facts.findings ++ ends in
+    let results : List ℕ = results_table facts.link facts.findings ++ ends in
     let noted : List ℕ = paragraph (notes facts.without facts.unused) ++ results in
     let whole =
     two 70 60923 (heading (verdict_of facts.count facts.policy) hits facts.policy.max) (counts_table facts.count ++ noted)
@@ -209,7 +209,7 @@ report_few facts small =
     (two 400 60523 (counts_table facts.count) noted (counts_few facts.count small.counts)
     (two 122 60401 (paragraph (notes facts.without facts.unused)) results
     (paragraph_few 121 (notes facts.without facts.unused) (notes_few facts.without facts.unused small.without small.unused))
-    (two 60210 191 (results_table facts.findings) ends (results_by (length facts.findings == 0) facts.findings small.findings)
+    (two 60210 191 (results_table facts.link facts.findings) ends (results_by (length facts.findings == 0) facts.link facts.findings small.findings)
     (last_few unshown hits (all_unshown facts.show facts.count facts.policy small.counts))))) in
     omega (arith, whole)
 
@@ -217,13 +217,13 @@ report_few facts small =
 pub parts_few : (facts : Facts) → AreSmall facts
     → length
     ((((heading (verdict_of facts.count facts.policy) (hits_of facts.count facts.policy) facts.policy.max ++ counts_table facts.count)
-    ++ paragraph (notes facts.without facts.unused)) ++ results_table facts.findings)
+    ++ paragraph (notes facts.without facts.unused)) ++ results_table facts.link facts.findings)
     ++ last_lines (unshown_number facts.show facts.count facts.policy) (hits_of facts.count facts.policy)) ≤ 61000
 parts_few facts small =
     let first = heading (verdict_of facts.count facts.policy) (hits_of facts.count facts.policy) facts.policy.max in
     let second = counts_table facts.count in
     let third = paragraph (notes facts.without facts.unused) in
-    let fourth = results_table facts.findings in
+    let fourth = results_table facts.link facts.findings in
     let last = last_lines (unshown_number facts.show facts.count facts.policy) (hits_of facts.count facts.policy) in
     subst (λ bytes. length bytes ≤ 61000)
     (sym (append_assoc ((first ++ second) ++ third) fourth last ∙ append_assoc (first ++ second) third (fourth ++ last)

@@ -1,6 +1,7 @@
 -- The table of results in Markdown, row by row.
-use Rattle.std.proofs.Common.{◌≡◌, ◌+◌, ◌-◌, ◌==◌, ◌++◌, ℕ, Bool, true, false, not, ◌&&◌, List, [], ◌∷◌, codes, decimal, length, flat_map, encode_utf8, if◌then◌else◌, refl, sym, ap, ◌∙◌, cond, append_assoc, subst, arith, take}
-use Rattle.std.specs.List.{AllByRecursion, count_by, list_all}
+use Rattle.std.proofs.Common.{◌≡◌, ◌+◌, ◌-◌, ◌==◌, ◌++◌, ℕ, Bool, true, false, not, ◌&&◌, List, [], ◌∷◌, Option, Some, None, IfSome, chars, codes, decimal, length, flat_map, encode_utf8, if◌then◌else◌, refl, sym, ap, ◌∙◌, cond, append_assoc, subst, arith, take}
+use Rattle.std.specs.List.{AllByRecursion, count_by, enumerate_from, list_all}
+use Rattle.std.proofs.lemmas.Str.{encode_ascii}
 use Rattle.std.specs.Char.{is_ascii_digit}
 use Rattle.std.proofs.lemmas.Bool.{and_parts, and_from, false_from_ne_true, eqb-true, true≢false, not-true}
 use Rattle.std.proofs.lemmas.Bool.Decides.{nat_tests}
@@ -13,23 +14,30 @@ use Rattle.sarif_model.specs.declared.kinds.State.{State}
 use Rattle.sarif_model.specs.declared.kinds.State.TheVariants.{New, Unchanged, Updated, Absent}
 use Rattle.sarif_model.specs.Level.{level_name}
 use Rattle.sarif_model.specs.State.{state_name}
-use Rattle.sarif_shown.specs.declared.escaping.Escaping.TheVariants.{Markdown}
+use Rattle.sarif_links.specs.Address.{is_address, is_address_sign}
+use Rattle.sarif_links.proofs.AddressSigns.{signs}
+use Rattle.sarif_shown.specs.declared.escaping.Escaping.TheVariants.{Markdown, Page}
 use Rattle.sarif_findings.specs.declared.finding.Finding.{Finding}
 use Rattle.sarif_findings.specs.declared.reporting.Reporting.{Reporting}
-use Rattle.sarif_shown.specs.Escaped.{escaped, escaped_char, markdown_char, is_mark}
+use Rattle.sarif_findings.specs.declared.code.Code.{Code}
+use Rattle.sarif_findings.specs.CodeLaws.{IsSeenLine}
+use Rattle.sarif_findings.specs.CodeRows.{one_line}
+use Rattle.sarif_shown.specs.Escaped.{escaped, escaped_char, markdown_char, page_char, is_mark}
+use Rattle.sarif_shown.specs.Linked.{place_link}
 use Rattle.sarif_findings.specs.Finding.{spot_text}
-use Rattle.sarif_reports.specs.MarkdownReport.{code_of, hit_cell, result_row}
-use Rattle.sarif_reports.specs.MarkdownLaws.{have_bars}
+use Rattle.sarif_reports.specs.MarkdownReport.{Row, anchor, code_line, code_of, hit_cell, is_coded, linked, place_cell, result_row, row_text, rule_cell, title_of}
+use Rattle.sarif_reports.specs.MarkdownLaws.{AreLinks, have_bars}
 use Rattle.sarif_findings.specs.Reported.{reported_of}
 use Rattle.sarif_findings.specs.ShownLaws.{is_seen, are_seen}
 use Rattle.sarif_shown.proofs.EscapedApart.{decimal_digits, mark_small}
 use Rattle.sarif_findings.proofs.HighBytes.{high_apart, char_kept}
 use Rattle.sarif_shown.proofs.SeenTexts.{IsSeenText, shown_text, place_seen, escaped_chars}
 use Rattle.sarif_shown.proofs.TextApart.{seen_in_line, same_ends}
-use Rattle.sarif_findings.proofs.ToldFindings.{IsTold, all_told}
+use Rattle.sarif_findings.proofs.ToldFindings.{IsShown}
 use Rattle.sarif_shown.specs.Listed.{listed}
 use Rattle.sarif_reports.specs.MarkdownReport.{most_rows, most_bytes, fitting, in_table}
-use Rattle.sarif_shown.proofs.ListedMore.{listed_told}
+use Rattle.sarif_reports.proofs.AddressRows.{IsAddressed, address_chars, link_addressed, sign_small}
+use Rattle.sarif_reports.proofs.Tabled.{IsTabled, all_tabled, code_seen, line_seen, listed_each}
 use Rattle.std.specs.Prelude.{nat_le}
 
 -- this many lines end, each with eight bars, after this many earlier ones
@@ -131,57 +139,171 @@ row_ends n text rest =
     let held = rest.ends in
     byte_more (n + 1) 7 32 _ refl refl (bar_more (n + 1) 7 _ (record { ends = omega (arith, first, held); bars = rest.bars }))
 
-regroup : (h l p b r m t s e text : List ℕ)
-    → ((h ++ (l ++ (b ++ (p ++ b)))) ++ ((r ++ (b ++ (m ++ b))) ++ (t ++ (b ++ (s ++ e))))) ++ text
-    ≡ h ++ (l ++ (b ++ (p ++ (b ++ (r ++ (b ++ (m ++ (b ++ (t ++ (b ++ (s ++ (e ++ text))))))))))))
-regroup h l p b r m t s e text = simp append_assoc
+-- ---- links
 
-row_text : (n : ℕ) (f : Finding) (text : List ℕ) → IsTold f → Cells n 0 text → Cells (n + 1) 0 (result_row f ++ text)
-row_text n f text told rest =
+join : (n k : ℕ) (a b text : List ℕ) → Cells n k (a ++ (b ++ text)) → Cells n k ((a ++ b) ++ text)
+join n k a b text rest = subst (Cells n k) (sym (append_assoc a b text)) rest
+
+sign_quiet : (c : ℕ) → is_address_sign c ≡ true → is_quiet c ≡ true
+unfolding is_quiet
+sign_quiet c h = grind (arith, nat_tests, h)
+
+page_by : (a b d e f : Bool) (x : List ℕ) → list_all is_quiet x ≡ true
+    → list_all is_quiet (if a then codes "&amp;" else (if b then codes "&lt;" else (if d then codes "&gt;" else (if e then codes "&quot;" else (if f then codes "&#39;" else x))))) ≡ true
+unfolding is_quiet
+page_by true b d e f x h = refl
+page_by false true d e f x h = refl
+page_by false false true e f x h = refl
+page_by false false false true f x h = refl
+page_by false false false false true x h = refl
+page_by false false false false false x h = h
+
+page_quiet : (c : ℕ) → is_address_sign c ≡ true → list_all is_quiet (page_char c) ≡ true
+page_quiet c h =
+    page_by (c == 38) (c == 60) (c == 62) (c == 34) (c == 39) (encode_utf8 c)
+    (subst (λ (bytes : List ℕ). list_all is_quiet bytes ≡ true) (sym (encode_ascii c (sign_small c h))) (and_from (is_quiet c) true (sign_quiet c h) refl))
+
+signs_more : (n k : ℕ) (cs text : List ℕ) → list_all is_address_sign cs ≡ true → Cells n k text → Cells n k (flat_map page_char cs ++ text)
+signs_more n k [] text h rest = rest
+signs_more n k (c ∷ cs) text h rest =
+    let parts = and_parts (is_address_sign c) (list_all is_address_sign cs) h in
+    join n k (page_char c) (flat_map page_char cs) text (quiet_more n k (page_char c) _ (page_quiet c parts.0) (signs_more n k cs text parts.1 rest))
+
+address_more : (n k : ℕ) (address text : List ℕ) → list_all is_address_sign address ≡ true → Cells n k text → Cells n k (escaped Page address ++ text)
+address_more n k address text h rest =
+    subst (λ (bytes : List ℕ). Cells n k (bytes ++ text)) (sym (address_chars address h)) (signs_more n k address text h rest)
+
+-- an escaped string of seen characters
+seen_more : (n k : ℕ) (line text : List ℕ) → IsSeenLine line → Cells n k text → Cells n k (escaped Markdown line ++ text)
+unfolding escaped
+seen_more n k line text seen rest = marks_more n k (chars line) text seen.1 rest
+
+title_more : (n k : ℕ) (name : Option (List ℕ)) (text : List ℕ) → IfSome name IsSeenLine → Cells n k text → Cells n k (title_of name ++ text)
+unfolding is_quiet
+title_more n k None text seen rest = rest
+title_more n k (Some name) text seen rest =
+    let inner = seen_more n k name (codes "\"" ++ text) seen (quiet_more n k (codes "\"") text refl rest) in
+    join n k (codes " title=\"") (escaped Markdown name ++ codes "\"") text
+    (quiet_more n k (codes " title=\"") _ refl (join n k (escaped Markdown name) (codes "\"") text inner))
+
+anchor_more : (n k : ℕ) (address : List ℕ) (name : Option (List ℕ)) (plain text : List ℕ) → list_all is_address_sign address ≡ true
+    → IfSome name IsSeenLine → IsSeenText plain → Cells n k text → Cells n k (anchor address name plain ++ text)
+unfolding is_quiet
+anchor_more n k address name plain text signs seen is rest =
+    let e : List ℕ = codes "</a>" in
+    let d : List ℕ = code_of plain ++ e in
+    let c : List ℕ = codes ">" ++ d in
+    let b : List ℕ = title_of name ++ c in
+    let a : List ℕ = codes "\"" ++ b in
+    let coded = join n k (code_of plain) e text (code_more n k plain (e ++ text) is (quiet_more n k e text refl rest)) in
+    let begun = join n k (codes ">") d text (quiet_more n k (codes ">") (d ++ text) refl coded) in
+    let titled = join n k (title_of name) c text (title_more n k name (c ++ text) seen begun) in
+    let quoted = join n k (codes "\"") b text (quiet_more n k (codes "\"") (b ++ text) refl titled) in
+    let linked = join n k (escaped Page address) a text (address_more n k address (a ++ text) signs quoted) in
+    join n k (codes "<a href=\"") (escaped Page address ++ a) text (quiet_more n k (codes "<a href=\"") ((escaped Page address ++ a) ++ text) refl linked)
+
+linked_more : (n k : ℕ) (address : Option (List ℕ)) (name : Option (List ℕ)) (plain text : List ℕ) → IfSome address (λ a. list_all is_address_sign a ≡ true)
+    → IfSome name IsSeenLine → IsSeenText plain → Cells n k text → Cells n k (linked address name plain ++ text)
+linked_more n k None name plain text signs seen is rest = code_more n k plain text is rest
+linked_more n k (Some address) name plain text signs seen is rest = anchor_more n k address name plain text signs seen is rest
+
+address_signs : (o : Option (List ℕ)) → IfSome o (λ help. is_address help ≡ true) → IfSome o (λ a. list_all is_address_sign a ≡ true)
+address_signs None h = tt
+address_signs (Some help) h = signs help h
+
+link_signs : (o : Option (List ℕ)) → IfSome o IsAddressed → IfSome o (λ a. list_all is_address_sign a ≡ true)
+link_signs None h = tt
+link_signs (Some address) h = h.signs
+
+rule_more : (n k : ℕ) (rule : List ℕ) (help name : Option (List ℕ)) (text : List ℕ) → IsShown rule → IfSome help (λ a. is_address a ≡ true)
+    → IfSome name IsSeenLine → Cells n k text → Cells n k (rule_cell rule help name ++ text)
+rule_more n k [] help name text is address seen rest = rest
+rule_more n k (b ∷ bs) help name text is address seen rest =
+    linked_more n k help name (b ∷ bs) text (address_signs help address) seen (shown_text (b ∷ bs) is) rest
+
+line_code : (n k : ℕ) (line text : List ℕ) → IsSeenLine line → Cells n k text → Cells n k (code_of line ++ text)
+unfolding is_quiet
+line_code n k [] text seen rest = rest
+line_code n k (b ∷ bs) text seen rest =
+    let inner = seen_more n k (b ∷ bs) (codes "</code>" ++ text) seen (quiet_more n k (codes "</code>") text refl rest) in
+    join n k (codes "<code>") (escaped Markdown (b ∷ bs) ++ codes "</code>") text
+    (quiet_more n k (codes "<code>") _ refl (join n k (escaped Markdown (b ∷ bs)) (codes "</code>") text inner))
+
+code_line_more : (n k : ℕ) (coded : Bool) (code : Option Code) (text : List ℕ) → IfSome code (λ c. AllByRecursion IsSeenLine c.lines) → Cells n k text
+    → Cells n k (code_line coded code ++ text)
+unfolding is_quiet
+code_line_more n k coded None text seen rest = rest
+code_line_more n k false (Some code) text seen rest = rest
+code_line_more n k true (Some code) text seen rest =
+    join n k (codes "<br>") (code_of (one_line code)) text
+    (quiet_more n k (codes "<br>") _ refl (line_code n k (one_line code) text (line_seen code seen) rest))
+
+regroup : (h l p b r m d t s e text : List ℕ)
+    → ((h ++ (l ++ (b ++ (p ++ b)))) ++ ((r ++ (b ++ ((m ++ d) ++ b))) ++ (t ++ (b ++ (s ++ e))))) ++ text
+    ≡ h ++ (l ++ (b ++ (p ++ (b ++ (r ++ (b ++ (m ++ (d ++ (b ++ (t ++ (b ++ (s ++ (e ++ text)))))))))))))
+regroup h l p b r m d t s e text = simp append_assoc
+
+row_more : (n : ℕ) (link : Option (List ℕ)) (coded : Bool) (f : Finding) (text : List ℕ) → AreLinks link → IsTabled f → Cells n 0 text
+    → Cells (n + 1) 0 (result_row link coded f ++ text)
+row_more n link coded f text links is rest =
+    let told = is.told in
     let state = quiet_more (n + 1) 7 (state_name f.state) _ (state_quiet f.state) (row_ends n text rest) in
     let tool = code_more (n + 1) 6 f.tool _ (shown_text f.tool told.tool) (cell_more (n + 1) 6 _ state) in
-    let message = code_more (n + 1) 5 f.message _ (shown_text f.message told.message) (cell_more (n + 1) 5 _ tool) in
-    let rule = code_more (n + 1) 4 f.rule _ (shown_text f.rule told.rule) (cell_more (n + 1) 4 _ message) in
-    let place = code_more (n + 1) 3 (spot_text f) _ (place_seen f told) (cell_more (n + 1) 3 _ rule) in
+    let line = code_line_more (n + 1) 5 coded f.code _ (code_seen f.line f.code is.code) (cell_more (n + 1) 5 _ tool) in
+    let message = code_more (n + 1) 5 f.message _ (shown_text f.message told.message) line in
+    let rule = rule_more (n + 1) 4 f.rule f.help f.rule_name _ told.rule is.address is.label (cell_more (n + 1) 4 _ message) in
+    let place = linked_more (n + 1) 3 (place_link link f) None (spot_text f) _ (link_signs (place_link link f) (link_addressed link f links told.path is.line)) tt
+    (place_seen f told) (cell_more (n + 1) 3 _ rule) in
     let level = quiet_more (n + 1) 2 (level_name f.level) _ (level_quiet f.level) (cell_more (n + 1) 2 _ place) in
     subst (Cells (n + 1) 0)
     (sym
-    (regroup (hit_cell f.hit) (level_name f.level) (code_of (spot_text f)) (codes " | ") (code_of f.rule) (code_of f.message)
-    (code_of f.tool) (state_name f.state) (codes " |\n") text))
+    (regroup (hit_cell f.hit) (level_name f.level) (place_cell link f) (codes " | ") (rule_cell f.rule f.help f.rule_name) (code_of f.message)
+    (code_line coded f.code) (code_of f.tool) (state_name f.state) (codes " |\n") text))
     (hit_more (n + 1) f.hit _ level)
 
-all_rows : (fs : List Finding) → AllByRecursion IsTold fs → Cells (length fs) 0 (flat_map result_row fs)
-all_rows [] h = record { ends = refl; bars = refl }
-all_rows (f ∷ fs) h =
-    let count : length fs + 1 ≡ length (f ∷ fs) = omega arith in
-    subst (λ n. Cells n 0 (flat_map result_row (f ∷ fs))) count (row_text (length fs) f (flat_map result_row fs) h.0 (all_rows fs h.1))
+all_rows : (link : Option (List ℕ)) (rows : List Row) → AreLinks link → AllByRecursion (λ row. IsTabled row.1) rows
+    → Cells (length rows) 0 (flat_map (row_text link) rows)
+all_rows link [] links h = record { ends = refl; bars = refl }
+all_rows link (row ∷ rows) links h =
+    let count : length rows + 1 ≡ length (row ∷ rows) = omega arith in
+    subst (λ n. Cells n 0 (flat_map (row_text link) (row ∷ rows))) count
+    (row_more (length rows) link (is_coded row) row.1 (flat_map (row_text link) rows) links h.0 (all_rows link rows links h.1))
 
 -- ---- the rows of the table
 
-fitting_by : (b : Bool) (f : Finding) (fs : List Finding) → IsTold f → AllByRecursion IsTold fs → AllByRecursion IsTold (if b then f ∷ fs else [])
-fitting_by true f fs h rest = (h, rest)
-fitting_by false f fs h rest = tt
+numbered_tabled : (n : ℕ) (fs : List Finding) → AllByRecursion IsTabled fs → AllByRecursion (λ row. IsTabled row.1) (enumerate_from n fs)
+numbered_tabled n [] h = tt
+numbered_tabled n (f ∷ fs) h = (h.0, numbered_tabled (n + 1) fs h.1)
 
-fitting_told : (room : ℕ) (fs : List Finding) → AllByRecursion IsTold fs → AllByRecursion IsTold (fitting room fs)
-fitting_told room [] h = tt
-fitting_told room (f ∷ fs) h =
-    fitting_by (nat_le (length (result_row f)) room) f (fitting (room - length (result_row f)) fs) h.0 (fitting_told (room - length (result_row f)) fs h.1)
+fitting_by : (b : Bool) (row : Row) (rows : List Row) → IsTabled row.1 → AllByRecursion (λ one. IsTabled one.1) rows
+    → AllByRecursion (λ one. IsTabled one.1) (if b then row ∷ rows else [])
+fitting_by true row rows h rest = (h, rest)
+fitting_by false row rows h rest = tt
 
-pub table_told : (fs : List Finding) → AllByRecursion IsTold fs → AllByRecursion IsTold (in_table fs)
-table_told fs h =
-    let told = listed_told fs h in
-    fitting_told most_bytes (take most_rows (listed fs))
-    (recursion_from_All IsTold (take most_rows (listed fs)) (All-take IsTold most_rows (listed fs) (All-from_recursion IsTold (listed fs) told)))
+fitting_tabled : (link : Option (List ℕ)) (room : ℕ) (rows : List Row) → AllByRecursion (λ row. IsTabled row.1) rows
+    → AllByRecursion (λ row. IsTabled row.1) (fitting link room rows)
+fitting_tabled link room [] h = tt
+fitting_tabled link room (row ∷ rows) h =
+    fitting_by (nat_le (length (row_text link row)) room) row (fitting link (room - length (row_text link row)) rows) h.0
+    (fitting_tabled link (room - length (row_text link row)) rows h.1)
 
-table_rows : (reporting : Reporting) (log : Data)
-    → Cells (length (in_table (reported_of reporting log))) 0 (flat_map result_row (in_table (reported_of reporting log)))
-table_rows reporting log =
+pub table_tabled : (link : Option (List ℕ)) (fs : List Finding) → AllByRecursion IsTabled fs → AllByRecursion (λ row. IsTabled row.1) (in_table link fs)
+table_tabled link fs h =
+    let all = listed_each IsTabled fs h in
+    fitting_tabled link most_bytes (enumerate_from 0 (take most_rows (listed fs)))
+    (numbered_tabled 0 (take most_rows (listed fs))
+    (recursion_from_All IsTabled (take most_rows (listed fs)) (All-take IsTabled most_rows (listed fs) (All-from_recursion IsTabled (listed fs) all))))
+
+table_rows : (link : Option (List ℕ)) (reporting : Reporting) (log : Data) → AreLinks link
+    → Cells (length (in_table link (reported_of reporting log))) 0 (flat_map (row_text link) (in_table link (reported_of reporting log)))
+table_rows link reporting log links =
     let fs = reported_of reporting log in
-    all_rows (in_table fs) (table_told fs (all_told reporting log))
+    all_rows link (in_table link fs) links (table_tabled link fs (all_tabled reporting log))
 
-pub rows_barred : (reporting : Reporting) (log : Data) → have_bars 8 0 (flat_map result_row (in_table (reported_of reporting log))) ≡ true
-rows_barred reporting log = (table_rows reporting log).bars
+pub rows_barred : (link : Option (List ℕ)) (reporting : Reporting) (log : Data) → AreLinks link
+    → have_bars 8 0 (flat_map (row_text link) (in_table link (reported_of reporting log))) ≡ true
+rows_barred link reporting log links = (table_rows link reporting log links).bars
 
-pub rows_end : (reporting : Reporting) (log : Data)
-    → count_by (λ b. b == 10) (flat_map result_row (in_table (reported_of reporting log))) ≡ length (in_table (reported_of reporting log))
-rows_end reporting log = (table_rows reporting log).ends
+pub rows_end : (link : Option (List ℕ)) (reporting : Reporting) (log : Data) → AreLinks link
+    → count_by (λ b. b == 10) (flat_map (row_text link) (in_table link (reported_of reporting log))) ≡ length (in_table link (reported_of reporting log))
+rows_end link reporting log links = (table_rows link reporting log links).ends

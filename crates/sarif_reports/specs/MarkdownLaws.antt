@@ -1,5 +1,6 @@
 -- Properties of the table of results in Markdown, for any strings of a log.
-use Rattle.std.specs.Prelude.{ℕ, ◌+◌, ◌<◌, ◌^◌, length, Bool, ◌&&◌, ◌==◌, List, [], ◌∷◌, if◌then◌else◌}
+use Rattle.std.specs.Prelude.{◌≡◌, ℕ, ◌+◌, ◌<◌, ◌^◌, length, Bool, true, ◌&&◌, ◌==◌, List, [], ◌∷◌, Option, IfSome, if◌then◌else◌}
+use Rattle.sarif_links.specs.Template.{is_template}
 use Rattle.sarif_model.specs.declared.kinds.Level.{Level}
 use Rattle.sarif_model.specs.declared.kinds.State.{State}
 use Rattle.sarif_shown.specs.Facts.{Facts}
@@ -10,6 +11,10 @@ have_bars count before [] = before == 0
 have_bars count before (b ∷ bs) =
     if b == 10 then (before == count && have_bars count 0 bs) else (
     if b == 124 then have_bars count (before + 1) bs else have_bars count before bs)
+
+-- places are linked by a template, if they are
+abbrev pub AreLinks : Option (List ℕ) → Type 0
+AreLinks link = IfSome link (λ template. is_template template ≡ true)
 
 -- numbers as the program holds them: counts of 32 bits, and a list that fits into memory
 pub record AreSmall (facts : Facts) : Type 0 where

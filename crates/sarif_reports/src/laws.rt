@@ -1,9 +1,9 @@
 //! Laws of reports. Each law is the contract of a function that does nothing. A log may be hostile, so the laws
 //! cover any strings.
-ghost use Rattle.std.specs.Prelude.{◌≡◌, ◌<◌, ◌≤◌, ◌+◌, ◌==◌, ◌^◌, ℕ, List, true};
+ghost use Rattle.std.specs.Prelude.{◌≡◌, ◌<◌, ◌≤◌, ◌+◌, ◌==◌, ◌^◌, ℕ, Bool, List, Option, true};
 ghost use Rattle.std.specs.Prelude.{[], Some, bytes_eq};
 ghost use Rattle.std.specs.Prelude.{codes, flat_map, length, nat_lt};
-ghost use Rattle.std.specs.List.{IsDistinct, count_by};
+ghost use Rattle.std.specs.List.{All, IsDistinct, count_by};
 ghost use Rattle.std.specs.Str.{IsUtf8};
 ghost use Rattle.json.specs.Json.{document};
 ghost use Rattle.serde_json.specs.Data.{Data, array};
@@ -19,8 +19,9 @@ ghost use Rattle.sarif_shown.specs.Facts.{Facts};
 ghost use Rattle.sarif_reports.specs.GitlabReport.{gitlab_of, hashed_texts, items_after};
 ghost use Rattle.sarif_findings.specs.declared.reporting.Reporting.{Reporting};
 ghost use Rattle.sarif_reports.specs.JunitLaws.{IsXmlText, cases_of, document_of, fails, names_after, occurrences};
-ghost use Rattle.sarif_reports.specs.MarkdownLaws.{AreSmall, have_bars};
+ghost use Rattle.sarif_reports.specs.MarkdownLaws.{AreLinks, AreSmall, have_bars};
 ghost use Rattle.sarif_reports.specs.MarkdownReport.{in_table, left_out, markdown_of, result_row};
+ghost use Rattle.sarif_reports.specs.MarkdownReport.{row_text};
 ghost use Rattle.sarif_findings.specs.Reported.{reported_of};
 
 /// Each mark of a string in Markdown is part of a `&#N;`: no string makes a cell, a link, emphasis or a tag.
@@ -38,26 +39,32 @@ pub fn hashed_texts_differ()
 /// In Markdown the table of results has one line per row, and each line has eight bars: no log adds a line or a
 /// cell.
 pub fn markdown_rows_have_their_cells()
-    ensures bars { (reporting : Reporting) (log : Data) →
-        have_bars 8 0 (flat_map result_row (in_table (reported_of reporting log))) ≡ true }
-    ensures lines { (reporting : Reporting) (log : Data) →
-        count_by (λ b. b == 10) (flat_map result_row (in_table (reported_of reporting log)))
-        ≡ length (in_table (reported_of reporting log)) }
+    ensures bars { (link : Option (List ℕ)) (reporting : Reporting) (log : Data) → AreLinks link
+        → have_bars 8 0
+        (flat_map (row_text link) (in_table link (reported_of reporting log))) ≡ true }
+    ensures lines { (link : Option (List ℕ)) (reporting : Reporting) (log : Data) → AreLinks link
+        → count_by (λ b. b == 10)
+        (flat_map (row_text link) (in_table link (reported_of reporting log)))
+        ≡ length (in_table link (reported_of reporting log)) }
 {}
 
 /// In Markdown each reported result has a row or is counted in the line on those that have none, and so has each hit.
-/// If anything is reported, there is a row. The rows have at most 60,000 bytes.
+/// If anything is reported, there is a row: each takes at most 48,000 bytes. The rows have at most 60,000 bytes.
 pub fn markdown_tables_count_all_results()
-    ensures results { (findings : List Finding) →
-        length (in_table findings) + length (left_out findings) ≡ length findings }
-    ensures hits { (reporting : Reporting) (log : Data) →
-        count_by (λ f. f.hit) (in_table (reported_of reporting log))
-        + count_by (λ f. f.hit) (left_out (reported_of reporting log))
+    ensures results { (link : Option (List ℕ)) (findings : List Finding) →
+        length (in_table link findings) + length (left_out link findings) ≡ length findings }
+    ensures hits { (link : Option (List ℕ)) (reporting : Reporting) (log : Data) →
+        count_by (λ row. row.1.hit) (in_table link (reported_of reporting log))
+        + count_by (λ f. f.hit) (left_out link (reported_of reporting log))
         ≡ hits_of (count_of (runs_of log)) reporting.policy }
-    ensures row { (reporting : Reporting) (log : Data) → 0 < length (reported_of reporting log)
-        → 0 < length (in_table (reported_of reporting log)) }
-    ensures bytes { (findings : List Finding) →
-        length (flat_map result_row (in_table findings)) ≤ 60000 }
+    ensures row { (link : Option (List ℕ)) (reporting : Reporting) (log : Data) → AreLinks link
+        → 0 < length (reported_of reporting log)
+        → 0 < length (in_table link (reported_of reporting log)) }
+    ensures few { (link : Option (List ℕ)) (coded : Bool) (reporting : Reporting) (log : Data)
+        → AreLinks link → All (λ f. length (result_row link coded f) ≤ 48000)
+        (reported_of reporting log) }
+    ensures bytes { (link : Option (List ℕ)) (findings : List Finding) →
+        length (flat_map (row_text link) (in_table link findings)) ≤ 60000 }
 {}
 
 /// A report in Markdown has at most 61,000 bytes, if its numbers have 32 bits: fewer than a comment may have.

@@ -1,8 +1,9 @@
 //! The report for job summaries and comments on a change.
-ghost use Rattle.std.specs.Prelude.{◌≡◌, ◌≤◌, ◌++◌, IfOk, OnOk, drop, flat_map, length, map, take, string_bytes};
-ghost use Rattle.std.specs.List.{count_by};
+ghost use Rattle.std.specs.Prelude.{◌≡◌, ◌≤◌, ◌++◌, IfOk, OnOk, codes, drop, flat_map, length, map, option_map, take, string_bytes};
+ghost use Rattle.std.specs.List.{count_by, enumerate_from};
+ghost use Rattle.sarif_shown.specs.declared.escaping.Escaping.TheVariants.{Page};
+ghost use Rattle.sarif_shown.specs.Escaped.{escaped};
 ghost use Rattle.sarif_counts.specs.Counts.{count_at};
-ghost use Rattle.sarif_findings.specs.Finding.{spot_text};
 ghost use Rattle.sarif_shown.specs.CountRow.{row_begin, row_end};
 ghost use Rattle.sarif_shown.specs.Facts.{facts_of};
 ghost use Rattle.sarif_reports.specs.MarkdownReport as said;
@@ -10,10 +11,11 @@ ghost use Rattle.sarif_shown.specs.Sentences.{entries_text, runs_text};
 
 use sarif_counts::{Counts, Verdict, hits, verdict};
 use sarif_findings::Finding;
+use sarif_links::Template;
 use sarif_model::State;
 use sarif_shown::{
     Escaping, ReportInput, accept_text, entries_text, gate_text, list_findings, more_text,
-    push_place, row_numbers, runs_text, unshown_number, unshown_text,
+    place_link, push_place, row_numbers, runs_text, unshown_number, unshown_text,
 };
 use std::alloc::{AllocError, Global};
 
@@ -22,6 +24,9 @@ const MOST_ROWS: usize = 200;
 
 /// The maximum number of bytes of their rows.
 const MOST_BYTES: usize = 60_000;
+
+/// The maximum number of hits whose rows have a line of code.
+const MOST_CODED: usize = 20;
 
 const COUNTS_HEAD: &str = "\
 | | error | warning | note | none | suppressed |\n|---|--:|--:|--:|--:|--:|\n";
@@ -100,25 +105,141 @@ fn hit_cell(hit: bool) -> &'static str
     if hit { "| yes | " } else { "|  | " }
 }
 
-/// Adds the place, as code.
-fn push_place_cell(alloc: Global, text: &mut String, finding: &Finding) -> Result<(), AllocError>
-    ensures { OnOk result
-        (string_bytes text.new ≡ string_bytes text.old ++ said.code_of (spot_text finding.now)) }
+/// Adds the title of a link, if it has one.
+fn push_title(alloc: Global, text: &mut String, name: Option<&str>) -> Result<(), AllocError>
+    ensures { OnOk result (string_bytes text.new
+        ≡ string_bytes text.old ++ said.title_of (option_map (λ name. name.now) name.entry)) }
+{
+    if let Some(name) = name {
+        text.push_str(" title=\"")?;
+        Escaping::Markdown.push_str(alloc, text, name)?;
+        text.push_str("\"")?;
+    }
+    Ok(())
+}
+
+/// Adds the start of a link to this address.
+fn push_anchor_start(
+    alloc: Global,
+    text: &mut String,
+    address: &str,
+    name: Option<&str>,
+) -> Result<(), AllocError>
+    ensures { OnOk result (string_bytes text.new ≡ string_bytes text.old
+        ++ (codes "<a href=\"" ++ (escaped Page address.now ++ (codes "\""
+        ++ (said.title_of (option_map (λ name. name.now) name.entry) ++ codes ">"))))) }
+{
+    text.push_str("<a href=\"")?;
+    Escaping::Page.push_str(alloc, text, address)?;
+    text.push_str("\"")?;
+    push_title(alloc, text, name)?;
+    text.push_str(">")?;
+    Ok(())
+}
+
+/// Adds a string as code, in a link to this address.
+fn push_anchor(
+    alloc: Global,
+    text: &mut String,
+    address: &str,
+    name: Option<&str>,
+    plain: &str,
+) -> Result<(), AllocError>
+    ensures { OnOk result (string_bytes text.new ≡ string_bytes text.old
+        ++ said.anchor address.now (option_map (λ name. name.now) name.entry) plain.now) }
+{
+    push_anchor_start(alloc, text, address, name)?;
+    push_code(alloc, text, plain)?;
+    text.push_str("</a>")?;
+    Ok(())
+}
+
+/// Adds the place, which links to its address if there is one.
+fn push_place_cell(
+    alloc: Global,
+    text: &mut String,
+    link: Option<&Template>,
+    finding: &Finding,
+) -> Result<(), AllocError>
+    ensures { OnOk result (string_bytes text.new ≡ string_bytes text.old
+        ++ said.place_cell (option_map (λ link. link.now) link.entry) finding.now) }
 {
     let mut place = String::new(alloc);
     push_place(&mut place, finding)?;
-    push_code(alloc, text, place.as_str())?;
+    match place_link(alloc, link, finding)? {
+        Some(address) => push_anchor(alloc, text, address.as_str(), None, place.as_str())?,
+        None => push_code(alloc, text, place.as_str())?,
+    }
+    Ok(())
+}
+
+/// Adds the rule in a link to this address, with its name if it has one.
+fn push_rule_link(
+    alloc: Global,
+    text: &mut String,
+    address: &str,
+    finding: &Finding,
+) -> Result<(), AllocError>
+    ensures { OnOk result (string_bytes text.new ≡ string_bytes text.old
+        ++ said.anchor address.now finding.now.rule_name finding.now.rule) }
+{
+    let rule = finding.rule.as_str();
+    match &finding.rule_name {
+        Some(name) => push_anchor(alloc, text, address, Some(name.as_str()), rule)?,
+        None => push_anchor(alloc, text, address, None, rule)?,
+    }
+    Ok(())
+}
+
+/// Adds the rule, which links to its page if there is one.
+fn push_rule_cell(alloc: Global, text: &mut String, finding: &Finding) -> Result<(), AllocError>
+    ensures { OnOk result (string_bytes text.new ≡ string_bytes text.old
+        ++ said.rule_cell finding.now.rule finding.now.help finding.now.rule_name) }
+{
+    let rule = finding.rule.as_str();
+    if rule.is_empty() {
+        return Ok(());
+    }
+    match &finding.help {
+        Some(address) => push_rule_link(alloc, text, address.as_str(), finding)?,
+        None => push_code(alloc, text, rule)?,
+    }
+    Ok(())
+}
+
+/// Adds a line of the code, if the row has one and there is code.
+fn push_code_line(
+    alloc: Global,
+    text: &mut String,
+    coded: bool,
+    finding: &Finding,
+) -> Result<(), AllocError>
+    ensures { OnOk result (string_bytes text.new
+        ≡ string_bytes text.old ++ said.code_line coded finding.now.code) }
+{
+    if coded {
+        if let Some(code) = &finding.code {
+            text.push_str("<br>")?;
+            push_code(alloc, text, code.one_line())?;
+        }
+    }
     Ok(())
 }
 
 /// Adds the rule and the message of a row.
-fn push_rule_cells(alloc: Global, text: &mut String, finding: &Finding) -> Result<(), AllocError>
+fn push_rule_cells(
+    alloc: Global,
+    text: &mut String,
+    coded: bool,
+    finding: &Finding,
+) -> Result<(), AllocError>
     ensures { OnOk result
-        (string_bytes text.new ≡ string_bytes text.old ++ said.rule_cells finding.now) }
+        (string_bytes text.new ≡ string_bytes text.old ++ said.rule_cells coded finding.now) }
 {
-    push_code(alloc, text, finding.rule.as_str())?;
+    push_rule_cell(alloc, text, finding)?;
     text.push_str(" | ")?;
     push_code(alloc, text, finding.message.as_str())?;
+    push_code_line(alloc, text, coded, finding)?;
     text.push_str(" | ")?;
     Ok(())
 }
@@ -136,50 +257,76 @@ fn push_tool_cells(alloc: Global, text: &mut String, finding: &Finding) -> Resul
 }
 
 /// Adds the hit, the level and the place of a row.
-fn push_place_cells(alloc: Global, text: &mut String, finding: &Finding) -> Result<(), AllocError>
-    ensures { OnOk result
-        (string_bytes text.new ≡ string_bytes text.old ++ said.place_cells finding.now) }
+fn push_place_cells(
+    alloc: Global,
+    text: &mut String,
+    link: Option<&Template>,
+    finding: &Finding,
+) -> Result<(), AllocError>
+    ensures { OnOk result (string_bytes text.new ≡ string_bytes text.old
+        ++ said.place_cells (option_map (λ link. link.now) link.entry) finding.now) }
 {
     text.push_str(hit_cell(finding.hit))?;
     text.push_str(finding.level.name())?;
     text.push_str(" | ")?;
-    push_place_cell(alloc, text, finding)?;
+    push_place_cell(alloc, text, link, finding)?;
     text.push_str(" | ")?;
     Ok(())
 }
 
-/// Adds the row of a result.
-fn push_row(alloc: Global, text: &mut String, finding: &Finding) -> Result<(), AllocError>
-    ensures { OnOk result
-        (string_bytes text.new ≡ string_bytes text.old ++ said.result_row finding.now) }
+/// Adds the row of a result, with a line of its code if the row has one.
+fn push_row(
+    alloc: Global,
+    text: &mut String,
+    link: Option<&Template>,
+    coded: bool,
+    finding: &Finding,
+) -> Result<(), AllocError>
+    ensures { OnOk result (string_bytes text.new ≡ string_bytes text.old
+        ++ said.result_row (option_map (λ link. link.now) link.entry) coded finding.now) }
 {
-    push_place_cells(alloc, text, finding)?;
-    push_rule_cells(alloc, text, finding)?;
+    push_place_cells(alloc, text, link, finding)?;
+    push_rule_cells(alloc, text, coded, finding)?;
     push_tool_cells(alloc, text, finding)?;
     Ok(())
 }
 
-/// The row of a result.
-fn row_of(alloc: Global, finding: &Finding) -> Result<String, AllocError>
-    ensures { IfOk result (λ s. string_bytes s ≡ said.result_row finding.now) }
+/// The row of the listed result with that index.
+fn row_of(
+    alloc: Global,
+    link: Option<&Template>,
+    index: usize,
+    finding: &Finding,
+) -> Result<String, AllocError>
+    ensures { IfOk result (λ s. string_bytes s
+        ≡ said.row_text (option_map (λ link. link.now) link.entry) (index, finding.now)) }
 {
     let mut row = String::new(alloc);
-    push_row(alloc, &mut row, finding)?;
+    let coded = index < MOST_CODED && finding.hit;
+    push_row(alloc, &mut row, link, coded, finding)?;
     Ok(row)
 }
 
 /// Adds the rows of these results, as many from the first on as fit into `MOST_BYTES`. Returns how many these are.
-fn push_fitting(alloc: Global, text: &mut String, listed: &[&Finding]) -> Result<usize, AllocError>
+fn push_fitting(
+    alloc: Global,
+    text: &mut String,
+    link: Option<&Template>,
+    listed: &[&Finding],
+) -> Result<usize, AllocError>
     ensures rows { OnOk result (string_bytes text.new ≡ string_bytes text.old
-        ++ flat_map said.result_row (said.fitting said.most_bytes (map (λ f. f.now) listed.now))) }
+        ++ flat_map (said.row_text (option_map (λ link. link.now) link.entry))
+        (said.fitting (option_map (λ link. link.now) link.entry) said.most_bytes
+        (enumerate_from 0 (map (λ f. f.now) listed.now)))) }
     ensures count { IfOk result
-        (λ n. n ≡ length (said.fitting said.most_bytes (map (λ f. f.now) listed.now))) }
+        (λ n. n ≡ length (said.fitting (option_map (λ link. link.now) link.entry) said.most_bytes
+        (enumerate_from 0 (map (λ f. f.now) listed.now)))) }
     ensures few { IfOk result (λ n. n ≤ length listed.now) }
 {
     let mut room = MOST_BYTES;
     let mut count = 0;
-    for finding in listed {
-        let row = row_of(alloc, finding)?;
+    for (index, finding) in listed.iter().enumerate() {
+        let row = row_of(alloc, link, index, finding)?;
         if row.len() > room {
             return Ok(count);
         }
@@ -202,13 +349,20 @@ fn first_rows<'a, 'f>(listed: &'a [&'f Finding]) -> &'a [&'f Finding]
 }
 
 /// Adds the rows of the first of these results, as many as the table holds. Returns how many these are.
-fn push_rows(alloc: Global, text: &mut String, listed: &[&Finding]) -> Result<usize, AllocError>
+fn push_rows(
+    alloc: Global,
+    text: &mut String,
+    link: Option<&Template>,
+    listed: &[&Finding],
+) -> Result<usize, AllocError>
     ensures rows { OnOk result (string_bytes text.new ≡ string_bytes text.old
-        ++ flat_map said.result_row (said.rows_of (map (λ f. f.now) listed.now))) }
-    ensures count { IfOk result (λ n. n ≡ length (said.rows_of (map (λ f. f.now) listed.now))) }
+        ++ flat_map (said.row_text (option_map (λ link. link.now) link.entry))
+        (said.rows_of (option_map (λ link. link.now) link.entry) (map (λ f. f.now) listed.now))) }
+    ensures count { IfOk result (λ n. n ≡ length
+        (said.rows_of (option_map (λ link. link.now) link.entry) (map (λ f. f.now) listed.now))) }
     ensures few { IfOk result (λ n. n ≤ length listed.now) }
 {
-    push_fitting(alloc, text, first_rows(listed))
+    push_fitting(alloc, text, link, first_rows(listed))
 }
 
 /// How many of these results are hits.
@@ -264,26 +418,36 @@ fn after<'a, 'f>(listed: &'a [&'f Finding], count: usize) -> &'a [&'f Finding]
 }
 
 /// Adds the table of results.
-fn push_table(alloc: Global, text: &mut String, findings: &[Finding]) -> Result<(), AllocError>
-    ensures { OnOk result
-        (string_bytes text.new ≡ string_bytes text.old ++ said.table_of findings.now) }
+fn push_table(
+    alloc: Global,
+    text: &mut String,
+    link: Option<&Template>,
+    findings: &[Finding],
+) -> Result<(), AllocError>
+    ensures { OnOk result (string_bytes text.new ≡ string_bytes text.old
+        ++ said.table_of (option_map (λ link. link.now) link.entry) findings.now) }
 {
     let listed = list_findings(alloc, findings)?;
     let listed = listed.as_slice();
     text.push_str(RESULTS_HEAD)?;
-    let count = push_rows(alloc, text, listed)?;
+    let count = push_rows(alloc, text, link, listed)?;
     let others = others_line(alloc, after(listed, count))?;
     push_paragraph(text, others.as_str())?;
     Ok(())
 }
 
 /// Adds the table of results, if there are any.
-fn push_results(alloc: Global, text: &mut String, findings: &[Finding]) -> Result<(), AllocError>
-    ensures { OnOk result
-        (string_bytes text.new ≡ string_bytes text.old ++ said.results_table findings.now) }
+fn push_results(
+    alloc: Global,
+    text: &mut String,
+    link: Option<&Template>,
+    findings: &[Finding],
+) -> Result<(), AllocError>
+    ensures { OnOk result (string_bytes text.new ≡ string_bytes text.old
+        ++ said.results_table (option_map (λ link. link.now) link.entry) findings.now) }
 {
     if !findings.is_empty() {
-        push_table(alloc, text, findings)?;
+        push_table(alloc, text, link, findings)?;
     }
     Ok(())
 }
@@ -370,7 +534,8 @@ fn push_notes(alloc: Global, text: &mut String, without: u32, unused: u32) -> Re
 }
 
 /// Returns the report for job summaries and comments on a change: the verdict, the counts, runs without results,
-/// and a table of the first listed results: at most 200, whose rows take at most 60,000 bytes. The whole report has at
+/// and a table of the first listed results: at most 200, whose rows take at most 60,000 bytes. Rules link to their pages
+/// and places to their addresses; the rows of the first 20 hits have a line of code. The whole report has at
 /// most 61,000 bytes: fewer than a comment may have. Returns `AllocError` if memory for it runs out.
 pub fn markdown_report(alloc: Global, told: &ReportInput<'_>) -> Result<String, AllocError>
     ensures text { IfOk result (λ s. string_bytes s ≡ said.markdown_of (facts_of told.now)) }
@@ -386,7 +551,7 @@ pub fn markdown_report(alloc: Global, told: &ReportInput<'_>) -> Result<String, 
     let mut text = heading(alloc, verdict(counts, policy), hits, policy.max)?;
     push_counts(alloc, &mut text, counts)?;
     push_notes(alloc, &mut text, told.without, told.unused)?;
-    push_results(alloc, &mut text, findings)?;
+    push_results(alloc, &mut text, told.link, findings)?;
     let unshown = unshown_number(told.show, counts, policy);
     push_last(alloc, &mut text, unshown, hits)?;
     Ok(text)

@@ -19,6 +19,7 @@ fn empty_page<'a>(
         counts,
         policy,
         show: Show::All,
+        link: None,
         findings: &[],
         without: 0,
         unused: 0,

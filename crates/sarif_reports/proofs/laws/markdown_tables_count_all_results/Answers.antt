@@ -1,4 +1,4 @@
-use Rattle.sarif_reports.proofs.TableRows.{hits_parted, results_parted, some_row, table_fits}
+use Rattle.sarif_reports.proofs.TableRows.{each_short, hits_parted, results_parted, some_row, table_fits}
 use Rattle.sarif_reports.proofs.laws.markdown_tables_count_all_results.Goals as goal
 
 pub returns-clause-results : goal.returns-clause-results
@@ -9,6 +9,9 @@ returns-clause-hits c = hits_parted
 
 pub returns-clause-row : goal.returns-clause-row
 returns-clause-row c = some_row
+
+pub returns-clause-few : goal.returns-clause-few
+returns-clause-few c = each_short
 
 pub returns-clause-bytes : goal.returns-clause-bytes
 returns-clause-bytes c = table_fits

@@ -16,9 +16,9 @@ returns-clause-text c =
     c.in_ok-text.ensures ∙ rw (c.verdict.ensures, c.hits-hits.ensures) refl in
     let fourth : string_bytes c.push_results.new.text
     ≡ ((heading (verdict_of facts.count facts.policy) (hits_of facts.count facts.policy) facts.policy.max ++ counts_table facts.count)
-    ++ paragraph (notes facts.without facts.unused)) ++ results_table facts.findings =
+    ++ paragraph (notes facts.without facts.unused)) ++ results_table facts.link facts.findings =
     c.in_ok-push_results.ensures
-    ∙ ap (λ bytes. bytes ++ results_table facts.findings)
+    ∙ ap (λ bytes. bytes ++ results_table facts.link facts.findings)
     (c.in_ok-push_notes.ensures
     ∙ ap (λ bytes. bytes ++ paragraph (notes facts.without facts.unused))
     (c.in_ok-push_counts.ensures ∙ ap (λ bytes. bytes ++ counts_table facts.count) first)) in
@@ -26,14 +26,14 @@ returns-clause-text c =
     let hits = hits_of facts.count facts.policy in
     let all : string_bytes c.push_last.new.text
     ≡ (((heading (verdict_of facts.count facts.policy) hits facts.policy.max ++ counts_table facts.count)
-    ++ paragraph (notes facts.without facts.unused)) ++ results_table facts.findings)
+    ++ paragraph (notes facts.without facts.unused)) ++ results_table facts.link facts.findings)
     ++ last_lines unshown hits =
     c.in_ok-push_last.ensures ∙ ap (λ n. string_bytes c.push_results.new.text ++ last_lines c.unshown_number-unshown.result n) c.hits-hits.ensures
     ∙ ap (λ n. string_bytes c.push_results.new.text ++ last_lines n hits) c.unshown_number-unshown.ensures
     ∙ ap (λ bytes. bytes ++ last_lines unshown hits) fourth in
     all
     ∙ regrouped (heading (verdict_of facts.count facts.policy) hits facts.policy.max) (counts_table facts.count) (paragraph (notes facts.without facts.unused))
-    (results_table facts.findings) (last_lines unshown hits)
+    (results_table facts.link facts.findings) (last_lines unshown hits)
 
 pub returns-clause-short : goal.returns-clause-short
 returns-clause-short c =
@@ -42,9 +42,9 @@ returns-clause-short c =
     c.in_ok-text.ensures ∙ rw (c.verdict.ensures, c.hits-hits.ensures) refl in
     let fourth : string_bytes c.push_results.new.text
     ≡ ((heading (verdict_of facts.count facts.policy) (hits_of facts.count facts.policy) facts.policy.max ++ counts_table facts.count)
-    ++ paragraph (notes facts.without facts.unused)) ++ results_table facts.findings =
+    ++ paragraph (notes facts.without facts.unused)) ++ results_table facts.link facts.findings =
     c.in_ok-push_results.ensures
-    ∙ ap (λ bytes. bytes ++ results_table facts.findings)
+    ∙ ap (λ bytes. bytes ++ results_table facts.link facts.findings)
     (c.in_ok-push_notes.ensures
     ∙ ap (λ bytes. bytes ++ paragraph (notes facts.without facts.unused))
     (c.in_ok-push_counts.ensures ∙ ap (λ bytes. bytes ++ counts_table facts.count) first)) in
@@ -52,7 +52,7 @@ returns-clause-short c =
     let hits = hits_of facts.count facts.policy in
     let all : string_bytes c.push_last.new.text
     ≡ (((heading (verdict_of facts.count facts.policy) hits facts.policy.max ++ counts_table facts.count)
-    ++ paragraph (notes facts.without facts.unused)) ++ results_table facts.findings)
+    ++ paragraph (notes facts.without facts.unused)) ++ results_table facts.link facts.findings)
     ++ last_lines unshown hits =
     c.in_ok-push_last.ensures ∙ ap (λ n. string_bytes c.push_results.new.text ++ last_lines c.unshown_number-unshown.result n) c.hits-hits.ensures
     ∙ ap (λ n. string_bytes c.push_results.new.text ++ last_lines n hits) c.unshown_number-unshown.ensures
