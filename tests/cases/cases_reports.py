@@ -42,6 +42,7 @@ class Reporting(Case):
     def of_policy(self):
         words = ["--fail-on", self.policy.fail_on, "--max", str(self.policy.max)]
         words += ["--show", "hits"] * (self.policy.show == "hits")
+        words += ["--link", self.policy.link] if self.policy.link else []
         return words + [word for root in self.policy.roots() for word in ("--root", root) if root]
 
     @cached_property

@@ -2,7 +2,7 @@
 """The reports of a merged log, in plain Python, for tests/program/reports.
 
 tests/reference/reference_reports.py text|github|markdown|gitlab|junit|azure [--fail-on L] [--max N] [--states LIST]
-    [--root PREFIX].. [--show hits|all] LOG
+    [--root PREFIX].. [--show hits|all] [--link TEMPLATE] LOG
 
 It follows the chapter on reports in docs/formats.md and crates/sarif_reports/README.md sentence by sentence. Its
 only inputs are the finished merged log and the policy. It shares no code with the program, so that a mistake in either shows as a difference.
@@ -17,6 +17,7 @@ from dataclasses import dataclass, field
 from typing import Optional
 
 from reference_json import compact
+from reference_links import anchor, is_address, place_address
 
 LEVELS = ("none", "note", "warning", "error")
 STATES = ("new", "unchanged", "updated", "absent")
@@ -24,19 +25,25 @@ MOST_CHARACTERS = 1_000
 CUT = "\N{HORIZONTAL ELLIPSIS}"
 MOST_MARKDOWN_ROWS = 200
 MOST_MARKDOWN_BYTES = 60_000
+MOST_CODED_ROWS = 20
+MOST_NAME_CHARACTERS = 100
+MOST_CODE_LINES = 5
+MOST_CODE_CHARACTERS = 120
 MOST_PAGE_ROWS = 10_000
 LARGEST = 2**32 - 1
 
 
 @dataclass
 class Policy:
-    """The policy of the gate, the prefixes to strip from paths (one, or several in a tuple), and what reports show."""
+    """The policy of the gate, the prefixes to strip from paths (one, or several in a tuple), what reports show, and the
+    template of links."""
 
     fail_on: str = "error"
     max: int = 0
     states: tuple = ("new", "updated")
     root: object = ""
     show: str = "all"
+    link: Optional[str] = None
 
     def roots(self):
         return (self.root,) if isinstance(self.root, str) else tuple(self.root)
@@ -108,12 +115,16 @@ def is_hidden(character):
     return any(least <= ord(character) <= most for least, most in HIDDEN)
 
 
-def shown(text):
+def cut(text, most):
+    return text if len(text) <= most else text[:most] + CUT
+
+
+def shown(text, most=MOST_CHARACTERS):
     """A string of the log as reports show it: no commands, no invisible characters, limited length."""
     seen = "".join(" " if is_hidden(it) else it for it in text)
     while "##" in seen:
         seen = seen.replace("##", "# #")
-    return seen if len(seen) <= MOST_CHARACTERS else seen[:MOST_CHARACTERS] + CUT
+    return cut(seen, most)
 
 
 def as_path(uri):
@@ -244,6 +255,34 @@ class Found:
     def number(self, name):
         return a_number(at(self.physical(), "region", name), 1, LARGEST)
 
+    def name(self):
+        """The name of the rule, if it has one besides its id."""
+        described = at(self.descriptor, "name"), at(self.descriptor, "shortDescription", "text")
+        texts = [a_text(it) for it in described]
+        return first(it for it in texts if it and it != self.rule())
+
+    def snippet(self, region):
+        """The lines of a snippet of the place."""
+        text = a_text(at(self.physical(), region, "snippet", "text")) or ""
+        lines = text.split("\n")
+        lines = lines if lines[-1] else lines[:-1]
+        return [it.removesuffix("\r") for it in lines]
+
+    def code(self, line):
+        """Some lines of the code, and the index of the hit line among them or None."""
+        own, around = self.snippet("region"), self.snippet("contextRegion")
+        begin = a_number(at(self.physical(), "contextRegion", "startLine"), 1, LARGEST)
+        hit = None if begin is None or line is None else line - begin
+        if hit is not None and 0 <= hit < len(around):
+            lines = around
+        elif own:
+            lines, hit = own, None if line is None else 0
+        else:
+            lines, hit = around, None
+        start = max(0, (hit or 0) - 2)
+        lines = [code_line(it) for it in lines[start : start + MOST_CODE_LINES]]
+        return lines, None if hit is None else hit - start
+
 
 # ---- Reported results
 
@@ -262,6 +301,9 @@ class Reported:
     column: Optional[int]
     is_hit: bool
     link: Optional[str]
+    name: Optional[str] = None
+    address: Optional[str] = None
+    code: Optional[str] = None
 
     def place(self):
         if self.path is None:
@@ -275,6 +317,8 @@ def reported(found, policy):
     uri = found.uri()
     path = None if uri is None else shown(without_root(as_path(uri), policy.roots())) or None
     line = None if path is None else found.number("startLine")
+    is_exact = path is not None and path == without_root(as_path(uri), policy.roots())
+    name = found.name()
     return Reported(
         tool=shown(found.tool),
         rule=shown(found.rule()),
@@ -286,20 +330,32 @@ def reported(found, policy):
         column=None if line is None else found.number("startColumn"),
         is_hit=LEVELS.index(found.level) >= LEVELS.index(policy.fail_on),
         link=link_of(found),
+        name=None if name is None else shown(name, MOST_NAME_CHARACTERS),
+        address=place_address(policy.link, path, line) if policy.link and is_exact else None,
+        code=one_line(*found.code(line)),
     )
+
+
+def code_line(line):
+    """A line of code with its characters as they are shown."""
+    return "".join("    " if it == "\t" else " " if is_hidden(it) else it for it in line)
+
+
+def one_line(lines, hit):
+    """The hit line of some code unless it is blank, otherwise the first that isn't, as long as it is shown; None if there
+    is none."""
+    written = [it for it in lines if it.strip(" ")]
+    if not written:
+        return None
+    indent = min(len(it) - len(it.lstrip(" ")) for it in written)
+    line = first([it for it in [lines[hit] if hit is not None else ""] if it.strip(" ")] + written)
+    return cut(line[indent:], MOST_CODE_CHARACTERS).lstrip(" ")
 
 
 def link_of(found):
     """The help page of the rule, if there is a rule and its page has an address."""
     uri = a_text(at(found.descriptor, "helpUri")) or ""
     return uri if is_address(uri) and found.rule() else None
-
-
-ADDRESS = re.compile(r"https?://[A-Za-z0-9.:_-]+(?:[/?#][A-Za-z0-9.:_/?#~@!&()*+,;=%-]*)?")
-
-
-def is_address(text):
-    return len(text) <= MOST_CHARACTERS and "##" not in text and bool(ADDRESS.fullmatch(text))
 
 
 @dataclass
@@ -381,9 +437,13 @@ class Reports:
 
     def markdown_rows(self):
         """The rows of the first listed results, as many as fit."""
-        rows, room = [], MOST_MARKDOWN_BYTES
+        rows, room, left = [], MOST_MARKDOWN_BYTES, MOST_CODED_ROWS
         for it in self.listed()[:MOST_MARKDOWN_ROWS]:
-            texts = [coded(text) for text in (it.place(), it.rule, it.message, it.tool)]
+            place = anchor(it.address, None, coded(it.place()))
+            rule = anchor(it.link, None if it.name is None else marked(it.name), coded(it.rule))
+            left -= it.is_hit
+            line = f"<br>{coded(it.code)}" if it.is_hit and left >= 0 and it.code else ""
+            texts = place, rule, coded(it.message) + line, coded(it.tool)
             row = markdown_row("yes" if it.is_hit else "", it.level, *texts, it.state)
             room -= len(row.encode()) + 1
             if room < 0:
@@ -493,9 +553,12 @@ def escaped(value):
 MARKS = set("!\"#$%&'()*+.:;<=>?@[\\]^_`{|}~")
 
 
+def marked(text):
+    return "".join(f"&#{ord(it)};" if it in MARKS else it for it in text)
+
+
 def coded(text):
-    inner = "".join(f"&#{ord(it)};" if it in MARKS else it for it in text)
-    return f"<code>{inner}</code>" if text else ""
+    return f"<code>{marked(text)}</code>" if text else ""
 
 
 def markdown_row(*cells):
@@ -626,9 +689,10 @@ def main(words):
     about.add_argument("--states", default="new,updated")
     about.add_argument("--root", action="append", default=[])
     about.add_argument("--show", choices=("hits", "all"), default="all")
+    about.add_argument("--link")
     given = about.parse_args(words)
     states = tuple(given.states.split(","))
-    policy = Policy(given.fail_on, given.max, states, tuple(given.root), given.show)
+    policy = Policy(given.fail_on, given.max, states, tuple(given.root), given.show, given.link)
     with open(given.log, "rb") as source:
         reports = Reports(json.load(source), policy)
     sys.stdout.buffer.write(getattr(reports, given.report)())
