@@ -15,16 +15,16 @@ _sarif_gate() {
         mapfile -t COMPREPLY < <(compgen -W 'error warning note none' -- "$word")
         return
         ;;
-    --today | --ignore-fingerprint | --states | --max | --matching | --root | --show | --reason | --until | --workers)
+    --today | --ignore-fingerprint | --states | --max | --matching | --root | --show | --link | --reason | --until | --workers)
         return
         ;;
     esac
     if [[ $word == -* ]]; then
         mapfile -t COMPREPLY < <(compgen -W '--baseline --suppress --today --require-success --allow-external-properties
             --ignore-fingerprint --fail-on --states --max --matching --out --root --show
-            --text --github --markdown --gitlab --html --junit --azure --unused --accept
-            --prune --reason --until --adopt --suppress-out --known --workers --explain
-            --help -h --version -V' -- "$word")
+            --link --text --github --markdown --gitlab --html --junit --azure --unused
+            --accept --prune --reason --until --adopt --suppress-out --known --workers
+            --explain --help -h --version -V' -- "$word")
         return
     fi
     if [[ $word == @* ]]; then
