@@ -3,3 +3,5 @@ pub mod Items
 pub mod Lists
 pub mod Marks
 pub mod Parts
+pub mod Spread
+pub mod WovenLists

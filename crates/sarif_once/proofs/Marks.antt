@@ -13,7 +13,7 @@ use Rattle.sarif_once.specs.Once.{copy_marks, marks_in, without_copies}
 
 -- ---- as many marks as records
 
-findings_long : (before rs : List Record) → length (findings_after before rs) ≡ length rs
+pub findings_long : (before rs : List Record) → length (findings_after before rs) ≡ length rs
 findings_long before [] = refl
 findings_long before (r ∷ rs) = ap suc (findings_long (before ++ r ∷ []) rs)
 

@@ -1,8 +1,11 @@
 //! Laws of runs without their copies. Each law is the contract of a function that does nothing.
-ghost use Rattle.std.specs.Prelude.{◌≡◌, Bool, List, length};
+ghost use Rattle.std.specs.Prelude.{◌≡◌, Bool, List, false, length};
 ghost use Rattle.serde_json.specs.Data.{Data};
-ghost use Rattle.sarif_copies.specs.Copies.{copies_of};
+ghost use Rattle.sarif_copies.specs.Copies.{copies_of, numbers_of, spread};
 ghost use Rattle.sarif_model.specs.Run.{results_of};
+ghost use Rattle.sarif_model.specs.declared.kinds.State.{State};
+ghost use Rattle.sarif_model.specs.declared.kinds.State.TheVariants.{New};
+ghost use Rattle.sarif_model.specs.declared.record.Record.{Record};
 ghost use Rattle.sarif_read.specs.Unmarked.{unmarked, without_marked};
 ghost use Rattle.sarif_results.specs.declared.draft.Draft.{Draft};
 ghost use Rattle.sarif_runs.specs.Judging.{records_of};
@@ -19,6 +22,16 @@ pub fn records_without_copies_are_those_of_findings()
 pub fn results_that_are_not_marked_stay()
     ensures { (marks : List Bool) (run : Data)
         → results_of (without_marked marks run) ≡ unmarked marks (results_of run) }
+{}
+
+/// If findings have states, or marks, and each result gets what its finding has, each finding gets what is its own.
+pub fn findings_keep_what_is_theirs()
+    ensures states { (rs : List Record) (states : List State)
+        → length states ≡ length (unmarked (copies_of rs) rs)
+        → unmarked (copies_of rs) (spread New (numbers_of rs) states) ≡ states }
+    ensures marks { (rs : List Record) (marks : List Bool)
+        → length marks ≡ length (unmarked (copies_of rs) rs)
+        → unmarked (copies_of rs) (spread false (numbers_of rs) marks) ≡ marks }
 {}
 
 /// Drafts are those that aren't marked and those that are, put together again.

@@ -2,6 +2,7 @@
 #![tactic(auto)]
 
 mod laws;
+mod leaving;
 mod marking;
 mod parting;
 mod spreading;
@@ -9,9 +10,10 @@ mod thinning;
 mod weaving;
 
 pub use laws::{
-    parted_drafts_make_the_whole, records_without_copies_are_those_of_findings,
-    results_that_are_not_marked_stay,
+    findings_keep_what_is_theirs, parted_drafts_make_the_whole,
+    records_without_copies_are_those_of_findings, results_that_are_not_marked_stay,
 };
+pub use leaving::{LeftDrafts, weave_left};
 pub use marking::{CopyMarks, mark_copies};
 pub use parting::{Parted, part_runs};
 pub use spreading::{spread_marks, spread_states};

@@ -1,32 +1,33 @@
 //! Giving each copy what its finding has.
-ghost use Rattle.std.specs.Prelude.{◌≡◌, false, IfOk, None, slice_index_or};
+ghost use Rattle.std.specs.Prelude.{◌≡◌, false, map, IfOk, Some, slice_index_or};
+ghost use Rattle.sarif_model.specs.declared.kinds.State.TheVariants.{New};
 ghost use Rattle.sarif_copies.specs.Copies.{spread};
 
 use sarif_model::State;
 use std::alloc::{AllocError, Global};
 
-/// The state with this number, or none past the end.
-fn state_at(states: &[Option<State>], number: u32) -> Option<State>
-    ensures { result ≡ slice_index_or states.now number None }
+/// The state with this number, or `New` past the end.
+fn state_at(states: &[State], number: u32) -> State
+    ensures { result ≡ slice_index_or states.now number New }
 {
     match states.get(number as usize) {
         Some(state) => *state,
-        None => None,
+        None => State::New,
     }
 }
 
-/// For each result the state of its finding, which has this number among the findings. Returns `AllocError` if memory
-/// runs out.
+/// For each result the state of its finding, which has this number among the findings, as one that is there. Returns
+/// `AllocError` if memory runs out.
 pub fn spread_states(
     alloc: Global,
     numbers: &[u32],
-    states: &[Option<State>],
+    states: &[State],
 ) -> Result<Vec<Option<State>>, AllocError>
-    ensures { IfOk result (λ all. all.items ≡ spread None numbers.now states.now) }
+    ensures { IfOk result (λ all. all.items ≡ map Some (spread New numbers.now states.now)) }
 {
     let mut all = Vec::with_capacity(alloc, numbers.len())?;
     for number in numbers {
-        all.push(state_at(states, *number))?;
+        all.push(Some(state_at(states, *number)))?;
     }
     Ok(all)
 }
