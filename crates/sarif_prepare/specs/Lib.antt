@@ -1,3 +1,4 @@
 pub mod Asked
 pub mod Internal
 pub mod Kept
+pub mod Once

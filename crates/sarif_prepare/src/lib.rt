@@ -4,6 +4,7 @@
 
 mod asked;
 mod baselines;
+mod copies;
 mod file_read;
 mod halves;
 mod keeping;
@@ -11,14 +12,17 @@ mod left;
 mod leftover;
 mod leftovers;
 mod matched;
+mod once;
 mod parts_of_runs;
 mod preparing;
 mod run_parts;
 mod telling;
 mod told;
 mod unused;
+mod woven;
 
 pub use asked::Asked;
 pub use file_read::FileRead;
+pub use once::prepare_once;
 pub use preparing::prepare;
 pub use unused::mark_entries;
