@@ -4,6 +4,7 @@
 
 mod asked;
 mod baselines;
+mod choosing;
 mod copies;
 mod file_read;
 mod halves;
@@ -22,6 +23,7 @@ mod unused;
 mod woven;
 
 pub use asked::Asked;
+pub use choosing::prepare_by;
 pub use file_read::FileRead;
 pub use once::prepare_once;
 pub use preparing::prepare;
