@@ -1,0 +1,10 @@
+//! Which hits are accepted, if only those at some places or of some rules are.
+#![tactic(auto)]
+
+mod choice;
+mod choosing;
+mod names;
+mod tables;
+
+pub use choice::{Choice, Unfit};
+pub use choosing::choose;
