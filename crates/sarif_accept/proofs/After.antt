@@ -26,6 +26,7 @@ use Rattle.sarif_match.specs.Seen.{as_matched}
 use Rattle.sarif_accept.specs.Entry.{conditions_for}
 use Rattle.sarif_accept.specs.Keeping.{Heard, is_kept}
 use Rattle.sarif_accept.specs.Adding.{as_read, How, MayBeHit, is_hit, stays, is_said, once_each, entry_read, accepted_among, added_for, file_after}
+use Rattle.sarif_accept.specs.Choosing.{entries_read, file_adding, is_met}
 use Rattle.sarif_accept.specs.Until.{IsUntil}
 use Rattle.sarif_accept.proofs.EntryMatches.{any_as, matches_is}
 use Rattle.sarif_accept.proofs.SameConditions.{same_conditions-Decides}
@@ -37,7 +38,7 @@ abbrev read_with : List Condition → Option (List ℕ) → Option ℕ → Entry
 read_with cs reason until = record { conditions = map as_read cs; expires = until; status = Accepted; justification = reason }
 
 -- an entry that is made for another result that asks the same matches this one
-said_matches : (today : Option ℕ) (reason : Option (List ℕ)) (until : Option ℕ) (r : Record) (rs : List Record) → IsUntil today until
+pub said_matches : (today : Option ℕ) (reason : Option (List ℕ)) (until : Option ℕ) (r : Record) (rs : List Record) → IsUntil today until
     → list_any (is_said r) rs ≡ true → list_any (λ e. matches today e r) (map (λ x. entry_read x reason until) rs) ≡ true
 said_matches today reason until r [] is said = said
 said_matches today reason until r (x ∷ xs) is said =
@@ -58,7 +59,7 @@ said_itself : (r : Record) → is_said r r ≡ true
 said_itself r = (same_conditions-Decides (conditions_for r) (conditions_for r)).1 refl
 
 -- each result asks the same as one of those that are left once
-once_said : (before rs : List Record) (r : Record) (i : ℕ) → i < length rs → get_or rs i r ≡ r → list_any (is_said r) (before ++ once_each before rs) ≡ true
+pub once_said : (before rs : List Record) (r : Record) (i : ℕ) → i < length rs → get_or rs i r ≡ r → list_any (is_said r) (before ++ once_each before rs) ≡ true
 once_said before [] r i within is = absurd (omega arith)
 once_said before (x ∷ xs) r zero within is =
     elim (list_any (is_said x) before) as
@@ -78,7 +79,7 @@ once_said before (x ∷ xs) r (suc i) within is =
     ] refl
 
 -- a hit that doesn't stay is among those that are accepted
-among_accepted : (counts : MayBeHit) (file : File) (rs : List Record) (states : List State) (r : Record) (state : State) (i : ℕ)
+pub among_accepted : (counts : MayBeHit) (file : File) (rs : List Record) (states : List State) (r : Record) (state : State) (i : ℕ)
     → i < length rs → i < length states → get_or rs i r ≡ r → get_or states i state ≡ state
     → (is_hit counts file r state && not (stays file r)) ≡ true
     → (j : ℕ) × (j < length (accepted_among counts file rs states)) × (get_or (accepted_among counts file rs states) j r ≡ r)
@@ -123,17 +124,21 @@ filter_kept keep test (e ∷ es) all =
     ] refl
 
 -- the entries that match a current result are those of before, and then those of the added that do
-matching_after : (how : How) (counts : MayBeHit) (file : File) (rs : List Record) (states : List State) (r : Record) (i : ℕ) → i < length rs → get_or rs i r ≡ r
-    → matching (file_after how counts file rs states) r
-    ≡ matching file r ++ filter (λ e. matches file.today e r)
-    (map (λ x. entry_read x how.renewal.reason how.renewal.until) (added_for how counts file rs states))
-matching_after how counts file rs states r i within is =
+pub matching_adding : (how : How) (file : File) (rs added : List Record) (r : Record) (i : ℕ) → i < length rs → get_or rs i r ≡ r
+    → matching (file_adding how file rs added) r ≡ matching file r ++ filter (λ e. matches file.today e r) (entries_read how added)
+matching_adding how file rs added r i within is =
     let test : Entry → Bool = λ e. matches file.today e r in
-    let made = map (λ x. entry_read x how.renewal.reason how.renewal.until) (added_for how counts file rs states) in
+    let made = entries_read how added in
     filter-append test (filter (is_kept how.renewal.prune how.heard file rs) file.entries) made
     ∙ ap (λ l. l ++ filter test made)
     (filter_kept (is_kept how.renewal.prune how.heard file rs) test file.entries
     (keeps_matching how.renewal.prune how.heard file rs r i within is))
+
+matching_after : (how : How) (counts : MayBeHit) (file : File) (rs : List Record) (states : List State) (r : Record) (i : ℕ) → i < length rs → get_or rs i r ≡ r
+    → matching (file_after how counts file rs states) r
+    ≡ matching file r ++ filter (λ e. matches file.today e r)
+    (map (λ x. entry_read x how.renewal.reason how.renewal.until) (added_for how counts file rs states))
+matching_after how counts file rs states r i within is = matching_adding how file rs (added_for how counts file rs states) r i within is
 
 -- statuses of entries that are made are accepted
 made_accepted : (test : Entry → Bool) (reason : Option (List ℕ)) (until : Option ℕ) (rs : List Record)
@@ -168,22 +173,19 @@ with_accepted old new all =
     by_tests false false c = refl
 
 -- a current result is suppressed afterwards where it was, or where all its suppressions are accepted and an added entry matches it
-pub suppressed_after : (how : How) (counts : MayBeHit) (file : File) (rs : List Record) (states : List State) (r : Record) (i : ℕ)
-    → i < length rs → get_or rs i r ≡ r
-    → is_suppressed (file_after how counts file rs states) r
-    ≡ (is_suppressed file r
-    || (not (stays file r) && list_any (λ e. matches file.today e r)
-    (map (λ x. entry_read x how.renewal.reason how.renewal.until) (added_for how counts file rs states))))
-suppressed_after how counts file rs states r i within is =
+pub suppressed_adding : (how : How) (file : File) (rs added : List Record) (r : Record) (i : ℕ) → i < length rs → get_or rs i r ≡ r
+    → is_suppressed (file_adding how file rs added) r
+    ≡ (is_suppressed file r || (not (stays file r) && is_met file (entries_read how added) r))
+suppressed_adding how file rs added r i within is =
     let test : Entry → Bool = λ e. matches file.today e r in
-    let made = map (λ x. entry_read x how.renewal.reason how.renewal.until) (added_for how counts file rs states) in
+    let made = entries_read how added in
     let more = map (λ e. e.status) (filter test made) in
-    let whole : statuses_of (file_after how counts file rs states) r ≡ statuses_of file r ++ more =
-    ap (λ es. r.held ++ map (λ e. e.status) es) (matching_after how counts file rs states r i within is)
+    let whole : statuses_of (file_adding how file rs added) r ≡ statuses_of file r ++ more =
+    ap (λ es. r.held ++ map (λ e. e.status) es) (matching_adding how file rs added r i within is)
     ∙ ap (λ l. r.held ++ l) (map-append (λ e. e.status) (matching file r) (filter test made))
     ∙ sym (append_assoc r.held (map (λ e. e.status) (matching file r)) more) in
     ap statuses_suppress whole
-    ∙ with_accepted (statuses_of file r) more (made_accepted test how.renewal.reason how.renewal.until (added_for how counts file rs states))
+    ∙ with_accepted (statuses_of file r) more (made_accepted test how.renewal.reason how.renewal.until added)
     ∙ ap (λ b. is_suppressed file r || (list_all is_accepted (statuses_of file r) && not b)) (none_made test made)
     ∙ twice (is_suppressed file r) (list_all is_accepted (statuses_of file r)) (list_any test made)
   where
@@ -192,6 +194,15 @@ suppressed_after how counts file rs states r i within is =
     twice false true true = refl
     twice false true false = refl
     twice false false c = refl
+
+pub suppressed_after : (how : How) (counts : MayBeHit) (file : File) (rs : List Record) (states : List State) (r : Record) (i : ℕ)
+    → i < length rs → get_or rs i r ≡ r
+    → is_suppressed (file_after how counts file rs states) r
+    ≡ (is_suppressed file r
+    || (not (stays file r) && list_any (λ e. matches file.today e r)
+    (map (λ x. entry_read x how.renewal.reason how.renewal.until) (added_for how counts file rs states))))
+suppressed_after how counts file rs states r i within is =
+    suppressed_adding how file rs (added_for how counts file rs states) r i within is
 
 -- ---- the law of accepting, for one result
 
@@ -249,13 +260,19 @@ with_objects-append list [] fs = refl
 with_objects-append list (e ∷ es) fs = with_objects-append (with_object list e) es fs
 
 -- the list of a current result begins with what it was
+pub list_begins_adding : (how : How) (file : File) (rs added : List Record) (r : Record) (i : ℕ) (own : List Data)
+    → i < length rs → get_or rs i r ≡ r
+    → (rest : List Data) × (suppressions_of own (file_adding how file rs added) r ≡ suppressions_of own file r ++ rest)
+list_begins_adding how file rs added r i own within is =
+    let more = filter (λ e. matches file.today e r) (entries_read how added) in
+    let behind = objects_behind (with_objects own (matching file r)) more in
+    (behind.0, ap (with_objects own) (matching_adding how file rs added r i within is) ∙ with_objects-append own (matching file r) more ∙ behind.1)
+
 pub list_begins : (how : How) (counts : MayBeHit) (file : File) (rs : List Record) (states : List State) (r : Record) (i : ℕ)
     (own : List Data) → i < length rs → get_or rs i r ≡ r
     → (rest : List Data) × (suppressions_of own (file_after how counts file rs states) r ≡ suppressions_of own file r ++ rest)
 list_begins how counts file rs states r i own within is =
-    let more = filter (λ e. matches file.today e r) (map (λ x. entry_read x how.renewal.reason how.renewal.until) (added_for how counts file rs states)) in
-    let behind = objects_behind (with_objects own (matching file r)) more in
-    (behind.0, ap (with_objects own) (matching_after how counts file rs states r i within is) ∙ with_objects-append own (matching file r) more ∙ behind.1)
+    list_begins_adding how file rs (added_for how counts file rs states) r i own within is
 
 -- ---- pruning
 

@@ -19,7 +19,8 @@ use Rattle.sarif_entries.specs.declared.version.Version.TheVariants.{First, Seco
 use Rattle.sarif_entries.specs.File.{File, entries_from, file_of, file_of_value, is_fifth, number_of, version_or}
 use Rattle.sarif_accept.specs.Entry.{entry_for, version_for}
 use Rattle.sarif_accept.specs.Keeping.{chosen, is_kept}
-use Rattle.sarif_accept.specs.Adding.{How, MayBeHit, entry_read, file_after, added_for}
+use Rattle.sarif_accept.specs.Adding.{How, entry_read}
+use Rattle.sarif_accept.specs.Choosing.{file_adding}
 use Rattle.sarif_accept.specs.NewFile.{file_with, version_after}
 use Rattle.sarif_accept.specs.Until.{HasGuid, IsDated}
 use Rattle.sarif_model.proofs.Elements.{items_back}
@@ -50,28 +51,27 @@ value_read version today entries ms es few read =
     rw (list, named, version_back version, items_back entries, count, read) refl
 
 -- the new file of one that was read, on the same day
-pub file_read : (how : How) (counts : MayBeHit) (file : File) (rs : List Record) (states : List State) (version : Version)
+pub file_read : (how : How) (file : File) (rs added : List Record) (version : Version)
     (d : Data) (values : List Data) (ms : Members) (text : List ℕ)
     → (version ≡ Fifth → is_fifth d ≡ true)
     → entries_from version file.today 0 values ≡ Ok file.entries
-    → AllByRecursion HasGuid (added_for how counts file rs states) → IsDated file.today how.renewal.until
+    → AllByRecursion HasGuid added → IsDated file.today how.renewal.until
     → length (chosen (map (is_kept how.renewal.prune how.heard file rs) file.entries) values
-    ++ map (λ r. entry_for r how.renewal.reason how.renewal.until) (added_for how counts file rs states)) ≤ most_entries
+    ++ map (λ r. entry_for r how.renewal.reason how.renewal.until) added) ≤ most_entries
     → json_of (without_mark text)
     ≡ Some
-    (file_with (version_after d (map (λ r. entry_for r how.renewal.reason how.renewal.until) (added_for how counts file rs states)))
+    (file_with (version_after d (map (λ r. entry_for r how.renewal.reason how.renewal.until) added))
     (chosen (map (is_kept how.renewal.prune how.heard file rs) file.entries) values
-    ++ map (λ r. entry_for r how.renewal.reason how.renewal.until) (added_for how counts file rs states)) ms)
-    → file_of text file.today ≡ Ok (file_after how counts file rs states)
+    ++ map (λ r. entry_for r how.renewal.reason how.renewal.until) added) ms)
+    → file_of text file.today ≡ Ok (file_adding how file rs added)
 unfolding file_of
-file_read how counts file rs states version d values ms text fifth read fits until few is =
-    let added = added_for how counts file rs states in
+file_read how file rs added version d values ms text fifth read fits until few is =
     let fit = new_fits d version added how.renewal.reason how.renewal.until fifth in
     let later = version_after d (map (λ r. entry_for r how.renewal.reason how.renewal.until) added) in
     rw is
     (value_read later file.today (chosen (map (is_kept how.renewal.prune how.heard file rs) file.entries) values
-    ++ map (λ r. entry_for r how.renewal.reason how.renewal.until) (added_for how counts file rs states)) ms
-    (file_after how counts file rs states).entries few
+    ++ map (λ r. entry_for r how.renewal.reason how.renewal.until) added) ms
+    (file_adding how file rs added).entries few
     (read_behind later file.today 0 _ _ _ _
     (kept_read version later fit.covers file.today (is_kept how.renewal.prune how.heard file rs) 0 0 values file.entries read)
     (λ m. made_read later added how.renewal.reason file.today how.renewal.until m fit.allowed fits until)))

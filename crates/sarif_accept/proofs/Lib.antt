@@ -1,6 +1,8 @@
 pub mod After
+pub mod AfterChosen
 mod Among
 pub mod AskedOnce
+pub mod ChosenCounted
 mod EachCondition
 pub mod EntryMatches
 pub mod EntryRead

@@ -1,4 +1,5 @@
 pub mod Adding
+pub mod Choosing
 pub mod Entry
 pub mod Heard
 pub mod Internal

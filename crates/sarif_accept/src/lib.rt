@@ -2,6 +2,7 @@
 #![tactic(auto)]
 
 mod asked;
+mod choosing_laws;
 mod entry;
 mod heard;
 mod indentation;
@@ -15,6 +16,10 @@ mod renewing;
 mod unused;
 mod weighing;
 
+pub use choosing_laws::{
+    a_chosen_hit_gets_an_entry, a_file_that_adds_entries_is_read, choosing_all_accepts_all,
+    each_hit_is_accepted_alike_or_left, hits_that_no_entry_matches_are_left,
+};
 pub use entry::entry_for;
 pub use heard::{Heard, ToolRun};
 pub use keep::kept_entries;
