@@ -13,7 +13,7 @@ import sys
 from reference_arguments import NoArguments, Unread, replaced
 from reference_entries import read_rules
 from reference_json import Fault, compact, read_json, stripped
-from reference_life import Known, PastLimit, Renewed, failed, file_of, unused
+from reference_life import Choice, Known, PastLimit, Renewed, failed, file_of, unused
 from reference_matching import has_evidence, partners, region_and_snippet, state
 from reference_members import KINDS, LEVELS, STATES, STATUSES, guid, index, objects, of_kind, one_of, texts
 
@@ -288,7 +288,7 @@ class Merge:
     """A merge of sources, which are byte strings."""
 
     def __init__(self, logs, baselines, suppress=None, policy=None, today=None, checks=None):
-        self.policy, self.checks = policy or Policy(), checks or Checks()
+        self.policy, self.checks, self.today = policy or Policy(), checks or Checks(), today
         check_number(logs, baselines)
         self.runs, self.results = 0, 0
         logs = [self.read(f"log {number}", source) for number, source in enumerate(logs)]
@@ -427,7 +427,8 @@ def check_number(logs, baselines):
 
 USAGE = """Usage: sarif_gate [--baseline F]... [--suppress F] [--today N] [--workers N]
     [--fail-on L] [--states LIST] [--max N] [--suppress-out F] [--accept] [--prune]
-    [--reason TEXT] [--until N] [--unused F] [--known F] [--adopt] [--require-success]
+    [--reason TEXT] [--until N] [--at PLACE]... [--rule ID]... [--root PREFIX]...
+    [--unused F] [--known F] [--adopt] [--require-success]
     [--allow-external-properties] [--matching N] [--ignore-fingerprint NAME]... --out F LOG... [@FILE]...
 """
 
@@ -452,6 +453,7 @@ class Request:
 
     def __init__(self, words):
         self.logs, self.baselines, self.ignored, self.given = [], [], [], {}
+        self.places, self.rules, self.roots = [], [], []
         words, plain = list(words), False
         while words:
             word = words.pop(0)
@@ -484,10 +486,15 @@ class Request:
         if not equals and (not words or words[0].startswith("-") and words[0] != "-"):
             raise Usage(2)
         value = value if equals else words.pop(0)
-        if name == "baseline":
-            self.baselines.append(value)
-        elif name == "ignore-fingerprint":
-            self.ignored.append(value)
+        several = {
+            "baseline": self.baselines,
+            "ignore-fingerprint": self.ignored,
+            "at": self.places,
+            "rule": self.rules,
+            "root": self.roots,
+        }
+        if name in several:
+            several[name].append(value)
         elif name not in (*VALUES, *RANGES, *REPORTS):
             raise Usage(2)
         else:
@@ -515,6 +522,7 @@ class Request:
             has("suppress-out") == (has("accept") or has("prune"))
             and (has("suppress") or not has("prune") and not has("unused"))
             and (has("accept") or not has("reason") and not has("until"))
+            and (has("accept") or not self.places and not self.rules)
             and (until is None or self.today is not None and self.today <= until)
             and not (has("known") and has("accept"))
             and (has("known") or not has("adopt"))
@@ -652,6 +660,8 @@ class Outputs:
     def __init__(self, request, merge):
         given = request.given
         how = {it: given[it] for it in ("accept", "prune", "reason", "until") if it in given}
+        if request.places or request.rules:
+            how["choice"] = Choice(request.places, request.rules, request.roots)
         self.files, self.lines = [], []
         try:
             if "suppress-out" in given:
