@@ -218,8 +218,8 @@ fn one_line_of_code_is_the_hit_line_or_the_first(rt: HostRuntime) -> Result<(), 
 
 /// The name of the rule of the result with this descriptor; `none` if it has none.
 fn name_of(alloc: Global, rule: &str) -> Result<Text, Fail> {
-    let finding = finding_of(alloc, "", rule)?;
-    match finding.rule_name {
+    let Finding { rule_name, .. } = finding_of(alloc, "", rule)?;
+    match rule_name {
         Some(name) => Ok(name),
         None => Ok(Text::copy_of(alloc, "none")?),
     }
