@@ -49,7 +49,7 @@ fn check(rt: &impl Abort, text: &str, wanted: bool) -> Result<(), Fail> {
 #[test]
 fn an_address_has_at_most_a_thousand_characters(rt: HostRuntime) -> Result<(), Fail> {
     let mut text = String::from_str(rt.alloc(), "https://e.org/")?;
-    while text.len() < 1000 {
+    for _ in text.len()..1000 {
         text.push('a')?;
     }
     check(&rt, text.as_str(), true)?;

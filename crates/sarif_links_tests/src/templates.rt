@@ -64,7 +64,7 @@ fn check(rt: &impl Abort, alloc: Global, text: &str, wanted: bool) -> Result<(),
 #[test]
 fn a_template_has_at_most_a_thousand_characters(rt: HostRuntime) -> Result<(), Fail> {
     let mut text = String::from_str(rt.alloc(), "https://h/{path}")?;
-    while text.len() < 1000 {
+    for _ in text.len()..1000 {
         text.push('a')?;
     }
     check(&rt, rt.alloc(), text.as_str(), true)?;
