@@ -1,4 +1,4 @@
--- The lines that are taken of a snippet.
+-- The lines of a snippet that its code has.
 use Rattle.std.proofs.Common.{◌≡◌, ◌<◌, ◌≤◌, ◌+◌, ◌-◌, ℕ, List, Some, length, map, take, drop, refl, sym, ap, ◌∙◌, inl, inr, arith}
 use Rattle.std.specs.Prelude.{min, option_map, option_and_then}
 use Rattle.std.specs.Str.Lines as of_text
@@ -14,12 +14,12 @@ use Rattle.sarif_findings.specs.Internal.CodeParts.{excerpt_of}
 index_in : (first n : ℕ) → first ≤ n → index_among first n ≡ Some (n - first)
 index_in first n h = rw (le-leb first n h) refl
 
--- ---- how many lines are taken
+-- ---- how many lines a code has
 
 length_taken : (ls : List (List ℕ)) (n : ℕ) → length (take 5 (drop n ls)) ≡ min 5 (length ls - n)
 length_taken ls n = length-take 5 (drop n ls) ∙ ap (min 5) (length-drop n ls)
 
--- the line with that index is taken just where it is there
+-- a code has the line with that index exactly if the snippet has it
 many_by : (n most : ℕ) → n ≤ 2 → n < min 5 most → n < most
 many_by n most small h =
     elim (cases_lt most 5) as (λ _. n < most) [

@@ -1,4 +1,4 @@
--- The lines of a code: their indentation, which of them are blank, and what is kept of them.
+-- The lines of a code: their indentation, which of them are blank, and what a code shows of each.
 use Rattle.std.proofs.Common.{◌≡◌, ◌<◌, ◌≤◌, ◌+◌, ◌-◌, ◌==◌, ℕ, zero, suc, Bool, true, false, cond, not, ◌&&◌, List, [], ◌∷◌, ◌++◌, Option, Some, None, length, get_or, map, filter, drop, reverse, replicate, encode_utf8, IsUtf8, refl, sym, subst, ap, ◌∙◌, append_assoc, arith}
 use mathlib.Core.List.{reverse_aux}
 use Rattle.std.specs.Prelude.{min, fold, flat_map, encode_utf8_all, if◌then◌else◌}

@@ -15,7 +15,7 @@ use Rattle.sarif_findings.specs.Shown.{kept, plain}
 abbrev pub index_among : ℕ → ℕ → Option ℕ
 index_among first n = if nat_le first n then Some (n - first) else None
 
--- all lines of a context, of which that one is the hit line, if there is such a line
+-- all lines of a context; that line is the hit line, if the context has it
 abbrev pub with_hit : List ℕ → ℕ → ℕ → Option Code
 with_hit context first hit =
     if nat_lt hit (length (of_text.lines context)) then Some (record {
@@ -140,7 +140,7 @@ without_indent n line = if is_blank line then [] else drop n line
 abbrev pub most_of_line : ℕ
 most_of_line = 120
 
--- a line without so many spaces: its first 120 characters, and `…` if there are more
+-- a line without the given number of spaces: its first 120 characters, and `…` if there are more
 abbrev pub cut_line : ℕ → List ℕ → List ℕ
 cut_line n line = encode_utf8_all (kept most_of_line (without_indent n line))
 

@@ -7,7 +7,7 @@ use Rattle.sarif_findings.specs.Code.{most_lines, most_of_line}
 use Rattle.sarif_findings.specs.CodeRows.{is_filled}
 use Rattle.sarif_findings.specs.ShownLaws.{are_seen}
 
--- at most 121 characters, none of which is a control character or hides or steers; so none is a line feed
+-- at most 121 characters; none is a control character or hides or steers, so none is a line feed
 abbrev pub IsSeenLine : List ℕ → Type 0
 IsSeenLine line = (length (chars line) ≤ most_of_line + 1) × (are_seen (chars line) ≡ true)
 

@@ -30,7 +30,7 @@ set_right width digits = replicate (width - length digits) 32 ++ digits
 abbrev pub number_width : Code → ℕ → ℕ
 number_width code first = length (decimal (first + (length code.lines - 1)))
 
--- what stands before the line in the row with that index
+-- what comes before the line in the row with that index
 abbrev pub row_number : Code → ℕ → ℕ → List ℕ
 row_number code first index =
     mark_of (is_hit code index)

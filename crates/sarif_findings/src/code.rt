@@ -11,8 +11,8 @@ use std::alloc::AllocError;
 /// last of them is empty. See `code_of`.
 #[derive(Debug, Drop)]
 pub struct Code {
-    /// The lines, without the spaces that all of them begin with. Of a line with more than 120 characters the first 120
-    /// are there, and then `…`.
+    /// The lines, without the spaces that all of them begin with. A line with more than 120 characters has its first 120
+    /// and then `…`.
     pub lines: Sequence<Text>,
     /// The number of the first line, if the lines have numbers: each line after it has the next number.
     pub first_number: Option<u64>,
@@ -129,7 +129,7 @@ impl Code {
         self.first_shown().is_some() && self.is_hit(index)
     }
 
-    /// Adds what stands before the line in a row with this number: `>` for the hit line or else a space, a space, the
+    /// Adds what comes before the line in a row with this number: `>` for the hit line, otherwise a space, a space, the
     /// number, set right in the width of the greatest, and ` |`.
     fn push_number(&self, text: &mut String, first: u64, index: usize) -> Result<(), AllocError>
         ensures { OnOk result (string_bytes text.new

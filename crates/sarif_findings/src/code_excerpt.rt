@@ -22,7 +22,7 @@ pub(crate) struct Excerpt<'a> {
     pub(crate) hit_line: Option<usize>,
 }
 
-/// Returns the lines of a text from that index on, at most as many as a code has.
+/// Returns the lines of a string from that index on, at most as many as a code has.
 fn lines_from<'a>(alloc: Global, text: &'a str, from: usize) -> Result<Vec<&'a str>, AllocError>
     ensures { IfOk result (λ found. map (λ line. line.now) found.items
         ≡ take said.most_lines (drop from (of_text.lines text.now))) }

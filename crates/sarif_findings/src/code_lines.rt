@@ -150,7 +150,7 @@ fn push_line(text: &mut ShownText, line: &str) -> Result<(), AllocError>
     Ok(())
 }
 
-/// Returns a line without so many of its first spaces: its first 120 characters, and `…` if there are more.
+/// Returns a line without the given number of its first spaces: its first 120 characters, and `…` if there are more.
 fn cut_line(alloc: Global, line: Indented<'_>, common: u128) -> Result<Text, AllocError>
     ensures { IfOk result (λ cut. cut ≡ parts.cut_of common line.entry) }
 {
@@ -163,7 +163,7 @@ fn cut_line(alloc: Global, line: Indented<'_>, common: u128) -> Result<Text, All
     Text::from_string(text.finish())
 }
 
-/// Returns these lines without so many of their first spaces.
+/// Returns these lines without the given number of their first spaces.
 fn cut_lines(
     alloc: Global,
     lines: &[Indented<'_>],
@@ -178,7 +178,7 @@ fn cut_lines(
     Ok(cut)
 }
 
-/// Returns the number of the line that follows so many lines.
+/// Returns the number of the line that follows the given number of lines.
 fn number_after(number: Option<u32>, lines: usize) -> Option<u64>
     requires { lines < 2 ^ 63 }
     ensures { result ≡ option_map (λ first. first + lines) number }

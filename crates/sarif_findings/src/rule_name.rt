@@ -1,4 +1,4 @@
-//! The name of a rule beside its id.
+//! The name of a rule next to its id.
 ghost use Rattle.std.specs.Prelude.{◌≡◌, IfOk, option_map, option_and_then, string_bytes};
 ghost use Rattle.serde_json.specs.View.{view};
 ghost use Rattle.sarif_findings.specs.Located.{rule_id_at, descriptor_at, rule_name_at};
@@ -15,7 +15,7 @@ use std::alloc::{AllocError, Global};
 /// The maximum number of characters of a shown name.
 const MOST_OF_NAME: u32 = 100;
 
-/// Returns a text, unless it is empty or the id of the rule.
+/// Returns a string, unless it is empty or the id of the rule.
 fn unless_id<'a>(id: &str, text: Option<&'a str>) -> Option<&'a str>
     ensures { option_map (λ s. s.now) result
         ≡ option_and_then (said.unless_id id.now) (option_map (λ s. s.now) text.entry) }

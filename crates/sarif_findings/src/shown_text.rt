@@ -106,7 +106,7 @@ impl ShownText {
         ShownText::with_room(alloc, MOST_CHARACTERS)
     }
 
-    /// An empty string, of which so many characters are kept.
+    /// An empty string that keeps the given number of characters.
     pub(crate) fn with_room(alloc: Global, room: u32) -> Result<ShownText, AllocError>
         ensures shown { IfOk result (λ made. (cs : List ℕ) → shown_with made cs
             ≡ encode_utf8_all (said.kept room (said.parted_signs false (map said.plain cs)))) }

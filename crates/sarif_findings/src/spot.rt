@@ -42,7 +42,7 @@ fn is_same(shown: &str, path: &str) -> bool
     !shown.is_empty() && shown == path
 }
 
-/// Whether this is what is shown of a path that isn't empty, unchanged.
+/// Whether this is how a path that isn't empty is shown, unchanged.
 fn is_exact(shown: &str, path: &str) -> bool
     requires { shown.now ≡ text_shown (chars path.now) }
     ensures { result ≡ said.is_exact (chars path.now) }
@@ -50,7 +50,7 @@ fn is_exact(shown: &str, path: &str) -> bool
     is_same(shown, path)
 }
 
-/// What is shown of a path without its root.
+/// How a path without its root is shown.
 fn shown_bare(alloc: Global, path: &str) -> Result<Option<ShownPath>, AllocError>
     ensures path { IfOk result (λ o. option_map (λ shown. shown.text) o
         ≡ none_if_empty (text_shown (chars path.now))) }
@@ -66,7 +66,7 @@ fn shown_bare(alloc: Global, path: &str) -> Result<Option<ShownPath>, AllocError
     Ok(Some(ShownPath { text, exact }))
 }
 
-/// What is shown of a path.
+/// How a path is shown.
 fn shown_path(alloc: Global, roots: &[Text], path: &str) -> Result<Option<ShownPath>, AllocError>
     ensures path { IfOk result (λ o. option_map (λ shown. shown.text) o ≡ none_if_empty
         (text_shown (without_here (chars (without_root roots.now path.now))))) }

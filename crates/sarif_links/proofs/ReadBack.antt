@@ -1,4 +1,4 @@
--- What is in place of `{path}` in an address: the path is read back from it, and its segments are names.
+-- What an address has for `{path}`: the path is read back from it, and its segments are names.
 use Rattle.std.proofs.Common.{◌≡◌, ◌≢◌, ◌<◌, ◌++◌, ◌+◌, ◌==◌, ℕ, Bool, true, false, not, ◌&&◌, ◌||◌, List, [], ◌∷◌, Option, Some, None, IfSome, codes, decimal, flat_map, map, refl, sym, ap, ◌∙◌, subst, append_assoc, append-nil, if◌then◌else◌, arith}
 use Rattle.std.specs.Prelude.{bytes_eq, is_some, unwrap_or}
 use Rattle.std.specs.List.{All, count_by, list_all, list_any, onto_first, slice_split}
@@ -62,7 +62,7 @@ unfolding onto_all percent_encode_byte
 escape_alone true b = refl
 escape_alone false b = refl
 
--- a byte that is no slash is in the first of the segments that follow it
+-- a byte that isn't a slash is in the first of the segments that follow it
 onto_encoded : (b : ℕ) (parts : List (List ℕ)) → onto_all (encoded_byte b) (map encoded parts) ≡ map encoded (onto_first b parts)
 onto_encoded b [] = escape_alone (is_plain b) b
 onto_encoded b (part ∷ parts) = onto_part (encoded_byte b) (encoded part) (map encoded parts)

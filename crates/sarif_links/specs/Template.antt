@@ -54,7 +54,7 @@ is_template text =
     nat_le (length text) most_of_address
     && (not (has_two_signs false text) && are_parts (parts_of text))
 
--- a text as a template, if it is one
+-- a string as a template, if it is one
 abbrev pub template_of : List ℕ → Option (List ℕ)
 template_of text = if is_template text then Some text else None
 
@@ -85,7 +85,7 @@ is_plain b =
     (nat_le 65 b && nat_le b 90) || ((nat_le 97 b && nat_le b 122) || ((nat_le 48 b && nat_le b 57)
     || list_any (nat_eq b) (codes "-._~/")))
 
--- a byte of a path as an address has it: another byte is `%` and two hexadecimal digits
+-- a byte of a path, encoded: another byte is `%` and two hexadecimal digits
 abbrev pub encoded_byte : ℕ → List ℕ
 encoded_byte b = if is_plain b then b ∷ [] else percent_encode_byte b
 
@@ -94,7 +94,7 @@ encoded path = flat_map encoded_byte path
 
 -- ---- addresses
 
--- a part with the path or the line in place of its placeholder
+-- a part with the path or the line instead of its placeholder
 abbrev pub filled_part : List ℕ → ℕ → List ℕ → List ℕ
 filled_part path line part =
     option_map_or (λ rest. encoded path ++ rest) (after_path part)

@@ -29,7 +29,7 @@ pub fn places_link_to_addresses()
         starts_with nat_eq address (before_first (λ byte. byte == 123) template) ≡ true) }
 {}
 
-/// All addresses of a template and a line are the same but for what is in place of `{path}`. The path is read back from
+/// All addresses of a template and a line are the same except for what they have for `{path}`. The path is read back from
 /// that, and no segment of it is empty, `.` or `..`. So two places have two addresses, and no log leaves the
 /// template's folder.
 pub fn paths_are_read_back()

@@ -24,7 +24,8 @@ fn are_plain(bytes: &[u8]) -> bool
 
 /// Adds a byte of a path.
 fn push_byte(text: &mut String, byte: u8) -> Result<(), AllocError>
-    ensures { OnOk result (string_bytes text.new ≡ string_bytes text.old ++ said.encoded_byte byte) }
+    ensures {
+        OnOk result (string_bytes text.new ≡ string_bytes text.old ++ said.encoded_byte byte) }
 {
     if is_plain(byte) {
         text.push(byte as char)?;
@@ -44,7 +45,7 @@ fn push_each(text: &mut String, path: &str) -> Result<(), AllocError>
     Ok(())
 }
 
-/// Adds a path as an address has it.
+/// Adds a path, encoded.
 #[tactic(auto, using(crate::proofs::Encoded::stays))]
 pub(crate) fn push_encoded(text: &mut String, path: &str) -> Result<(), AllocError>
     ensures { OnOk result (string_bytes text.new ≡ string_bytes text.old ++ said.encoded path.now) }

@@ -163,7 +163,7 @@ fn push_line(text: &mut String, line: Option<u32>) -> Result<(), AllocError>
     Ok(())
 }
 
-/// Adds this part with the line in place of its placeholder.
+/// Adds this part with the line instead of its placeholder.
 fn push_line_part(text: &mut String, part: &str, line: Option<u32>) -> Result<(), AllocError>
     ensures { OnOk result (string_bytes text.new ≡ string_bytes text.old
         ++ option_map_or (λ rest. decimal (unwrap_or line 1) ++ rest)
@@ -176,7 +176,7 @@ fn push_line_part(text: &mut String, part: &str, line: Option<u32>) -> Result<()
     Ok(())
 }
 
-/// Adds this part with the path or the line in place of its placeholder.
+/// Adds this part with the path or the line instead of its placeholder.
 fn push_part(text: &mut String, part: &str, path: &str, line: Option<u32>) -> Result<(), AllocError>
     ensures { OnOk result (string_bytes text.new ≡ string_bytes text.old
         ++ said.filled_part path.now (unwrap_or line 1) part.now) }
@@ -191,7 +191,7 @@ fn push_part(text: &mut String, part: &str, path: &str, line: Option<u32>) -> Re
     }
 }
 
-/// Adds these parts, with the path and the line in place of their placeholders.
+/// Adds these parts, with the path and the line instead of their placeholders.
 fn push_parts(
     text: &mut String,
     parts: &[&str],
@@ -248,8 +248,8 @@ impl Template {
 }
 
 /// Returns the address of a line of a path by this template: the path is percent-encoded. Without a line it is that of
-/// line 1. Returns `None` if a segment of the path is empty, `.` or `..`, or if the first has a colon: then the path is
-/// no path in a folder of the template's. Returns `AllocError` if memory runs out.
+/// line 1. Returns `None` if a segment of the path is empty, `.` or `..`, or if the first has a colon: then the path
+/// isn't in a folder of the template's. Returns `AllocError` if memory runs out.
 pub fn place_address(
     alloc: Global,
     template: &Template,

@@ -22,7 +22,7 @@ own_numbers : (n : ℕ) (firsts : List ℕ) → unmarked (copies_from n firsts) 
 own_numbers n [] = refl
 own_numbers n (first ∷ firsts) = own_number n first firsts (range_with_len (n + 1) (length firsts)) (copies_from (n + 1) firsts) (own_numbers (n + 1) firsts)
 
--- findings are counted one after another
+-- findings are counted in order
 before_counts : (n : ℕ) (copies : List Bool) → unmarked copies (findings_before n copies) ≡ range_with_len n (length (unmarked copies copies))
 before_counts n [] = refl
 before_counts n (true ∷ copies) = before_counts n copies

@@ -20,7 +20,7 @@ excerpt_of excerpt = record {
 abbrev pub line_of : Indented → List ℕ
 line_of line = replicate line.indent 32 ++ spread_line line.rest.now
 
--- the bytes of such a line without so many of its first spaces
+-- the bytes of such a line without the given number of its first spaces
 abbrev pub without_spaces_of : ℕ → Indented → List ℕ
 without_spaces_of n line =
     if line.blank then [] else replicate (line.indent - n) 32 ++ spread_line line.rest.now
