@@ -246,7 +246,7 @@ def of_rows():
     yield shows("JUnit's file has no ./", [result], "--junit", ['classname=":x"', 'file=":x"', 'line="2"'])
     said = lambda word, **more: {"level": "error", "message": {"text": word}, **more}
     results = [said("one"), said("two", **at("a")), said("three")]
-    pieces = ["3 hits stop this change", "one</td>", "three</td>", "two</td>"]
+    pieces = ["3 hits stop this change", "one</p>", "three</p>", "two</p>"]
     yield shows("hits without a place are together on the page", results, "--html", pieces, status=1)
 
 

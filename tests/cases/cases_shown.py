@@ -350,7 +350,7 @@ def worst_first():
         ),
         "gitlab": has('"one"', '"two"', '"three"', '"four"', '"five"'),
         "markdown": has(*(f"<code>{it}</code>" for it in ("two", "four", "five", "three", "one"))),
-        "html": has(*(f"<td>{it}</td>" for it in ("two", "four", "five", "three", "one"))),
+        "html": has(*(f"<p>{it}</p>" for it in ("two", "four", "five", "three", "one"))),
     }
     given = log(run("lint", *made), run("other", other))
     return report("the worst level comes first", given, wanted, ["--fail-on", "warning"], status=1)
@@ -363,7 +363,7 @@ def only_hits():
     other = {"level": "error", "ruleId": "R1", **said("five"), **placed("a.c")}
     lines = "".join(WORST_TEXT.splitlines(keepends=True)[:3])
     not_shown, hits = "2 other results aren't shown.", ["--show", "hits"]
-    no_cells = ("<td>three</td>", "<td>one</td>")
+    no_cells = ("<p>three</p>", "<p>one</p>")
     wanted = {
         "text": lines,
         "github": "".join(WORST_GITHUB.splitlines(keepends=True)[:3]),
@@ -371,7 +371,7 @@ def only_hits():
         "junit": has('<testsuites name="sarif_gate" tests="3" failures="3">\n', without=('"three"', '"one"')),
         "gitlab": has('"two"', '"four"', '"five"', without=('"three"', '"one"')),
         "markdown": both(ends(f"\n{not_shown}\n", table=3, hits=3), has(without=("three", "<code>one</code>"))),
-        "html": has(*(f"<td>{it}</td>" for it in ("two", "four", "five")), f'<p class="mind">{not_shown}</p>', without=no_cells),
+        "html": has(*(f"<p>{it}</p>" for it in ("two", "four", "five")), f'<p class="mind">{not_shown}</p>', without=no_cells),
     }
     given = log(run("lint", *made), run("other", other))
     yield report("only hits are shown", given, wanted, hits, status=1)
@@ -633,17 +633,20 @@ def of_junit():
 # ---- The page
 
 HOSTILE_ROWS = (
-    '<tr data-level="error" data-state="new" data-hit="yes"><th scope="row"><code>&lt;/<wbr>th&gt;/<wbr>a.c<b>:1</b>'
-    "</code></th><td><span>error</span></td><td>&lt;/td&gt;&lt;script&gt;alert(&quot;1&quot;)&lt;/script&gt; &amp; "
-    '&#39;x&#39;</td><td><a href="https://e.org/?a=1&amp;b=(2)" rel="noopener noreferrer"><code>R&lt;1&gt;'
-    "</code></a></td><td>new</td><td>T</td></tr>\n",
-    '<tr data-level="note" data-state="updated" data-hit="no"><th scope="row"><code>a.c<b>:2</b></code></th><td><span>'
-    "note</span></td><td>m</td><td><code>R2</code></td><td>updated</td><td>T</td></tr>\n",
+    '<details id="f1" open data-has=" error-new"><summary><h3>&lt;/<wbr>th&gt;/<wbr>a.<wbr>c</h3> <span>1 error</span></summary>\n<ul>\n'
+    '<li data-level="error" data-state="new" data-hit="yes"><code><i>&lt;/th&gt;/a.c:</i>1</code> <b>error</b> <p>'
+    "&lt;/td&gt;&lt;script&gt;alert(&quot;1&quot;)&lt;/script&gt; &amp; &#39;x&#39;</p> <div>"
+    '<a href="https://e.org/?a=1&amp;b=(2)" rel="noopener noreferrer"><code>R&lt;1&gt;</code></a> '
+    "<span><b>new</b> T</span></div></li>\n</ul>\n</details>\n",
+    '<details id="f2" data-has=" note-updated"><summary><h3>a.<wbr>c</h3> <span>1 note</span></summary>\n<ul>\n'
+    '<li data-level="note" data-state="updated" data-hit="no"><code><i>a.c:</i>2</code> <b>note</b> <p>m</p> <div>'
+    "<code>R2</code> <span><b>updated</b> T</span></div></li>\n</ul>\n</details>\n",
 )
 
 LEVEL_BOXES = (
     '<div class="filters" hidden>\n<fieldset><legend>Level</legend><label><input type="checkbox" id="error" checked>'
-    'error</label><label><input type="checkbox" id="note" checked>note</label></fieldset>\n</div>\n'
+    'error</label><label><input type="checkbox" id="note" checked>note</label></fieldset>\n'
+    "<p>These filters hide some rows. The numbers count all.</p>\n</div>\n"
 )
 
 REASONS = [
@@ -671,12 +674,14 @@ def of_pages():
     wanted, given = has(*HOSTILE_ROWS, without=["<script", "javascript:"]), log({"tool": tool, "results": results})
     yield report("the page: strings of a log stay in their cells", given, {"html": wanted}, baselines=[before], status=1)
     yield by_file()
+    yield from grouped()
+    yield from indexed()
     yield from linked()
     first = lambda report: [f"it begins with {report[:20]!r}"] * (not report.startswith("<!DOCTYPE html>"))
     gone = ["<section", "<nav", "<input", 'class="mind"']
     title = "<title>Gate: pass, 0 hits, 0 allowed</title>"
     empty = has(title, '<p class="empty">No results are reported.</p>\n', without=gone)
-    yield report("the page: without results there is no table of them", log(), {"html": both(first, empty)})
+    yield report("the page: without results there is no list of them", log(), {"html": both(first, empty)})
     for fail_on, states, reason in REASONS:
         more = ["--fail-on", fail_on, "--states", states]
         wanted = has(f"<p>A hit is a {reason}</p>")
@@ -701,9 +706,9 @@ def linked():
     for number, (uri, is_link) in enumerate(ADDRESSES):
         tool = {"driver": {"name": "T", "rules": [{"id": "R", "helpUri": uri}]}}
         given = log({"tool": tool, "results": [note(ruleIndex=0, **said("m"))]})
-        cell = "<td><code>R</code></td>"
+        cell = "<div><code>R</code> <span>"
         if is_link:
-            cell = f'<td><a href="{uri.replace("&", "&amp;")}" rel="noopener noreferrer"><code>R</code></a></td>'
+            cell = f'<div><a href="{uri.replace("&", "&amp;")}" rel="noopener noreferrer"><code>R</code></a> <span>'
         yield report(f"the page: address {number}, {str(uri)[:30]!r}", given, {"html": has(cell)})
 
 
@@ -723,9 +728,96 @@ def by_file():
         has('<a href="#hits">5 hits</a> <a href="#others">3 other results</a>'),
         has('<h2 id="hits">5 hits stop this change</h2>'),
         has('<h2 id="others">3 other results</h2>'),
-        counts('<tr class="again"', 2),
+        counts('<details id="f', 5),
+        counts(" open data-has", 3),
     )
     return report("the page: rows are by file, and hits come first", log_of(given), {"html": wanted}, status=1)
+
+
+def group(number, heading, numbers, is_open, *messages):
+    """A group of the page, with the messages of its first rows."""
+    opened = " open" if is_open else ""
+    begin = f'<details id="f{number}"{opened} data-has='
+    return [begin, f"><summary><h3>{heading}</h3> <span>{numbers}</span></summary>\n<ul>\n", *(f"<p>{it}</p>" for it in messages)]
+
+
+def grouped():
+    """The groups of the page: by file, 50 rows or fewer each, the first ones open."""
+    place = lambda level, message, uri: {"level": level, **said(message), **placed(uri)}
+    given = [
+        place("warning", "1", "a"),
+        place("note", "2", "b"),
+        place("error", "3", "b"),
+        place("warning", "4", "b"),
+        place("warning", "5", "c"),
+    ]
+    wanted = has(
+        *group(1, "b", "1 error, 1 warning", True, 3, 4),
+        *group(2, "a", "1 warning", True, 1),
+        *group(3, "c", "1 warning", True, 5),
+        '</section>\n<section aria-labelledby="others" data-has=" note-new">\n',
+        *group(4, "b", "1 note", False, 2),
+    )
+    more = ["--fail-on", "warning"]
+    yield report("the page: a file stands where its worst result stands", log(run("T", *given)), {"html": wanted}, more, status=1)
+    wanted = has(*group(1, "b", "1 note", True, 2), without=['id="f2"'])
+    yield report("the page: others are open if there are no hits", log(run("T", given[1])), {"html": wanted}, more)
+    none = [place("none", "m", "a")] * 2
+    wanted = has("<span>2 of level none</span>", "<p>m</p>", "<p>m</p>")
+    yield report("the page: results of level none", log(run("T", *none)), {"html": wanted})
+    given = [*(place("error", "m", "a") for _ in range(101)), place("error", "m", "b")]
+    wanted = has(
+        *group(1, "a, 1 to 50 of 101", "50 errors", True),
+        *group(2, "a, 51 to 100 of 101", "50 errors", False),
+        *group(3, "a, 101 of 101", "1 error", False),
+        *group(4, "b", "1 error", False),
+    )
+    yield report("the page: a file of 101 hits", log(run("T", *given)), {"html": wanted}, status=1)
+    given = [*(f"p{it}" for it in range(19)), *["x"] * 50, "y"]
+    wanted = both(
+        has(*group(20, "x", "50 errors", True), *group(21, "y", "1 error", False)),
+        counts(" open data-has", 20),
+    )
+    given = log(run("T", *(place("error", "m", it) for it in given)))
+    yield report("the page: 19 rows before an open group", given, {"html": wanted}, status=1)
+    given = log(run("T", *(place("error", "m", f"p{it}") for it in range(102))))
+    end = '<details data-has=" error-new"><summary>2 more results <span>2 errors</span></summary>\n'
+    wanted = has(*group(100, "p99", "1 error", False), "</details>\n" + end, *group(101, "p100", "1 error", False), "</details>\n</details>\n</section>")
+    yield report("the page: more than 100 groups", given, {"html": wanted}, status=1)
+
+
+def index_row(number, rule, tool, first, path):
+    """A row of the index of rules."""
+    link = f'<a href="#f{first}"><code>{path}</code></a>'
+    return f'<tr><td>{number}</td><th scope="row"><code>{rule}</code></th><td>{tool}</td><td>{link}</td></tr>\n'
+
+
+def indexed():
+    """The index of rules: the rules with the most results first."""
+    given = [
+        bare("T", "R1", "m", True, **placed("a")),
+        bare("T", "R2", "m", True, **placed("b")),
+        bare("T", "R2", "m", True, **placed("c")),
+        bare("U", "R1", "m", True, **placed("c")),
+        bare("U", "", "m", True, **placed("c")),
+        bare("U", "R3"),
+    ]
+    rows = [index_row(2, "R2", "T", 2, "b"), index_row(1, "R1", "T", 1, "a"), index_row(1, "R1", "U", 3, "c")]
+    begin = '<details class="rules"><summary>3 rules</summary>\n<table>\n<caption>Results of each rule</caption>\n'
+    wanted = both(
+        has(begin, "<tbody>\n" + "".join(rows) + "</tbody>\n</table>\n</details>\n" + '<details id="f1"'),
+        counts('class="rules"', 1),
+    )
+    yield report("the page: the index of rules", log_of(given), {"html": wanted}, status=1)
+    wanted = has("<summary>1 rule</summary>", index_row(1, "R3", "U", 1, "No path"))
+    yield report("the page: the index of the others", log_of(given[-1:]), {"html": wanted})
+    wanted = has(without=['class="rules"'])
+    yield report("the page: no index without rules", log_of([bare("T", "")]), {"html": wanted})
+    many = [bare("T", f"R{it}", "m", True) for it in (*range(102), 101)]
+    first = index_row(2, "R101", "T", 1, "No path") + index_row(1, "R0", "T", 1, "No path")
+    last = index_row(1, "R98", "T", 1, "No path") + "</tbody>\n</table>\n<p>2 more rules</p>\n</details>\n"
+    wanted = has("<summary>102 rules</summary>", "<tbody>\n" + first, last)
+    yield report("the page: 102 rules", log_of(many), {"html": wanted}, status=1)
 
 
 def allowed():

@@ -10,9 +10,27 @@ import tempfile
 STATES = ("new", "updated")
 LEVELS = ("error", "warning", "note", "none")
 
-# Whether a row is displayed, with its data.
-SEEN = """[...document.querySelectorAll('tr[data-level]')].map(it => [
-  it.dataset.level, it.dataset.state, it.dataset.hit, it.getClientRects().length > 0])"""
+# Whether a row is displayed, with its data. A row of a closed group counts as displayed.
+SEEN = """[...document.querySelectorAll('li[data-level]')].map(it => [
+  it.dataset.level, it.dataset.state, it.dataset.hit, getComputedStyle(it).display !== 'none'])"""
+
+# How many rows are seen, so not those of closed groups.
+VISIBLE = "[...document.querySelectorAll('li[data-level]')].filter(it => it.checkVisibility()).length"
+
+# What is wrong with the sentences on filters, and with the groups and lists whose rows are all filtered out.
+TOLD = """(() => {
+  const off = [...document.querySelectorAll('.filters input')].some(it => !it.checked);
+  const seen = it => getComputedStyle(it).display !== 'none', wrong = [];
+  const told = document.querySelector('.filters p');
+  if (told && seen(told) !== off) wrong.push('the sentence on filters');
+  for (const part of document.querySelectorAll('details[data-has], section')) {
+    const some = [...part.querySelectorAll('li')].some(seen);
+    if (part.localName === 'details' && seen(part) !== some) wrong.push('the group ' + part.id);
+    const gone = part.querySelector(':scope > .gone');
+    if (gone && seen(gone) === some) wrong.push('the sentence below ' + part.getAttribute('aria-labelledby'));
+  }
+  return wrong;
+})()"""
 
 # The current position of the middle of the box of each label.
 BOXES = """[...document.querySelectorAll('label')].map(it => {
@@ -23,24 +41,24 @@ BOXES = """[...document.querySelectorAll('label')].map(it => {
 TICKED = """[...document.querySelectorAll('label')].map(it => [
   it.textContent.trim(), it.querySelector('input').checked])"""
 
-# The rightmost position of anything that the page shows, without the headings for screen readers alone. The
-# counts are left out if they are in a box that scrolls.
+# The rightmost position of anything that the page shows, without paths for screen readers alone and code, which
+# scrolls. The counts are left out if they are in a box that scrolls.
 REACH = """Math.max(...[...document.querySelectorAll('body *')].filter(
-  it => !it.closest('.results thead') && !(it.closest('.counts') &&
+  it => it.checkVisibility() && !it.closest('li i, pre *') && !(it.closest('.counts') &&
     getComputedStyle(it.closest('.counts').parentElement).overflowX === 'auto')).map(
   it => it.getBoundingClientRect().right))"""
 
 # Each part that is displayed, in the order of the file: its name, and the positions of its top and its left side.
 PARTS = """[...document.querySelectorAll(
-  'h1, header p, nav, .counts, .filters, h2, tbody tr[data-level], main > p')].filter(
-  it => it.getClientRects().length > 0).map(it => {
+  'h1, header p, nav, .counts, .filters, h2, summary, li[data-level], main > p')].filter(
+  it => it.checkVisibility()).map(it => {
     const box = it.getBoundingClientRect();
     return [it.className || it.localName, Math.round(box.top), Math.round(box.left)];
   })"""
 
 # How far down the place of the first hit ends.
 FIRST_PLACE = """Math.max(...[...document.querySelector(
-  'tr[data-hit="yes"] th').getClientRects()].map(it => it.bottom)) + window.scrollY"""
+  'li[data-hit="yes"] > :first-child').getClientRects()].map(it => it.bottom)) + window.scrollY"""
 
 # What has the focus, and how it is shown.
 FOCUS = """(() => {
@@ -49,11 +67,11 @@ FOCUS = """(() => {
   let under = it.parentElement;
   const ground = it => getComputedStyle(it).backgroundColor;
   while (under && ground(under) === 'rgba(0, 0, 0, 0)') under = under.parentElement;
-  return [it.localName + (it.id ? '#' + it.id : '') + (it.href || ''), style.outlineStyle,
+  return [it.localName + (it.id ? '#' + it.id : '') + (it.href || it.textContent), style.outlineStyle,
     parseFloat(style.outlineWidth), style.outlineColor + ' on ' + ground(under)];
 })()"""
 
-BREAKS = """[...document.querySelectorAll('tr')].filter(
+BREAKS = """[...document.querySelectorAll('tr, li')].filter(
   it => getComputedStyle(it).breakInside !== 'avoid').length"""
 
 # Whether the style of the page is in use, and what the boxes and the links take of the page.
@@ -62,16 +80,20 @@ STYLED = "getComputedStyle(document.querySelector('h1')).borderLeftStyle !== 'no
 INPUTS = """[...document.querySelectorAll('input, nav')].filter(
   it => it.getClientRects().length > 0).length"""
 
-# Two cells of one row whose contents overlap.
+# Two parts of one row whose contents overlap, as far as they are seen: long parts scroll.
 OVERLAPS = """(() => {
   const found = [];
   const spans = cell => {
     const range = document.createRange();
     range.selectNodeContents(cell);
-    return [...range.getClientRects()].filter(it => it.width > 1 && it.height > 1);
+    const box = cell.getBoundingClientRect();
+    return [...range.getClientRects()].filter(
+      it => it.width > 1 && it.height > 1 && it.top < box.bottom && it.bottom > box.top).map(it => ({
+      left: it.left, right: it.right, top: Math.max(it.top, box.top), bottom: Math.min(it.bottom, box.bottom)}));
   };
-  for (const row of [...document.querySelectorAll('tr')].slice(0, 60)) {
-    const cells = [...row.cells].map(it => [it.textContent, spans(it)]);
+  const rows = [...document.querySelectorAll('tr, li')].filter(it => it.checkVisibility());
+  for (const row of rows.slice(0, 60)) {
+    const cells = [...row.children].map(it => [it.textContent, spans(it)]);
     for (const [i, [text, some]] of cells.entries())
       for (const [other, others] of cells.slice(i + 1))
         for (const a of some) for (const b of others)
@@ -87,7 +109,7 @@ COLOURS = """(() => {
   const found = {};
   const walker = document.createTreeWalker(document.body, NodeFilter.SHOW_TEXT);
   for (let text; (text = walker.nextNode());) {
-    if (!text.data.trim() || !text.parentElement.getClientRects().length) continue;
+    if (!text.data.trim() || !text.parentElement.checkVisibility()) continue;
     let under = text.parentElement;
     const colour = getComputedStyle(under).color;
     const ground = it => getComputedStyle(it).backgroundColor;
@@ -102,6 +124,7 @@ GROUND = "getComputedStyle(document.body).backgroundColor"
 LEAST_CONTRAST = 4.5
 LEAST_FOCUS = 3
 LOWEST_PLACE = 700
+MOST_HEIGHT = 40_000
 
 
 # ---- Colours
@@ -146,6 +169,12 @@ def fits(page, file):
     return wrong + [f"something reaches to {reach}"] * (reach > page.width + 0.5)
 
 
+def is_short(page, file):
+    """Checks that the page isn't too high as it opens."""
+    most = page.tells("document.documentElement.scrollHeight")
+    return [f"it is {most} high"] * (most > MOST_HEIGHT)
+
+
 def in_order(page, file):
     """Checks that the parts are seen in the order of the file: downwards, or to the right."""
     parts = page.tells(PARTS)
@@ -172,7 +201,7 @@ def focus_is_seen(page, file):
         seen.append(focus[0])
         is_shown = focus[1] == "solid" and focus[2] >= 2 and contrast(focus[3]) >= LEAST_FOCUS
         wrong += [f"the focus on {focus} isn't seen"] * (not is_shown)
-    boxes = page.tells("document.querySelectorAll('a, input').length")
+    boxes = page.tells("document.querySelectorAll('a, input, summary').length")
     return wrong + ["nothing has the focus"] * (boxes > 0 and not seen)
 
 
@@ -208,23 +237,24 @@ def pictured(page, folder, name):
     return [f"the picture is {wide} wide"] * (wide != page.width)
 
 
-def is_spoken(tables, rows, boxes):
-    """Checks that a screen reader gets the tables with names, headings and cells, and the boxes."""
+def is_spoken(lists, groups, rows, boxes):
+    """Checks that a screen reader gets the lists with their groups, the rows of open groups, and the boxes."""
 
     def look(page, file):
         named = page.named()
         of = lambda role: [name for it, name in named if it == role]
         found = of("table")
-        wrong = [f"the tables are {found}"] * (len(found) != tables + 1 or "" in found)
-        heads = ["Place", "Level", "Message", "Rule", "State", "Tool"]
-        wanted = ["state", "error", "warning", "note", "none", "suppressed"] + heads * tables
+        wrong = [f"the tables are {found}"] * (len(found) != 1 or "" in found)
+        wanted = ["state", "error", "warning", "note", "none", "suppressed"]
         wrong += [f"the headings are {of('columnheader')}"] * (of("columnheader") != wanted)
-        wrong += [f"{len(of('rowheader'))} rows are named"] * (len(of("rowheader")) != 4 + rows)
+        wrong += [f"{len(of('rowheader'))} rows are named"] * (len(of("rowheader")) != 4)
         cells = len(of("cell")) + len(of("gridcell"))
-        wrong += [f"there are {cells} cells"] * (cells != 20 + 5 * rows)
-        wrong += [f"the boxes are {of('checkbox')}"] * (of("checkbox") != boxes)
-        headings = len(of("heading"))
-        return wrong + [f"there are {headings} headings"] * (headings != 1 + tables)
+        wrong += [f"there are {cells} cells"] * (cells != 20)
+        wrong += [f"{len(of('listitem'))} rows are read"] * (len(of("listitem")) != rows)
+        opening = of("DisclosureTriangle")
+        wrong += [f"the groups are {opening}"] * (len(opening) != groups or "" in opening)
+        wrong += [f"the lists are {of('region')}"] * (len(of("region")) != lists or "" in of("region"))
+        return wrong + [f"the boxes are {of('checkbox')}"] * (of("checkbox") != boxes)
 
     return called("is_spoken", look)
 
@@ -272,7 +302,8 @@ def filters(page, file):
 def judged(page, when):
     boxes, rows = ticked(page), page.tells(SEEN)
     off = [row for row in rows if row[3] != displayed(row, boxes)]
-    return [f"{when} {json.dumps(row)} with {boxes}" for row in off[:2]]
+    wrong = [f"{when} {json.dumps(row)} with {boxes}" for row in off[:2]]
+    return wrong + [f"{when} {it} with {boxes}" for it in page.tells(TOLD)[:2]]
 
 
 # ---- On paper
@@ -283,7 +314,7 @@ def is_printed(rows):
 
     def look(page, file):
         wrong = ["the ground isn't white"] * (light(page.tells(GROUND)) < 0.99)
-        seen = sum(row[3] for row in page.tells(SEEN))
+        seen = page.tells(VISIBLE)
         wrong += [f"{seen} rows are printed"] * (seen != rows)
         boxes = page.tells(INPUTS)
         wrong += [f"{boxes} boxes or lists of links are printed"] * bool(boxes)

@@ -3,17 +3,22 @@
 import re
 from html.parser import HTMLParser
 
-from reference_page import FALLING, PageOf
+from reference_page import FALLING, GroupOf, ListOf, PageOf
 
+COLUMNS = ["Number", "Rule", "Tool", "First in"]
+GONE = "The filters hide all of these."
 POLICY = "default-src 'none'; style-src 'unsafe-inline'; base-uri 'none'; form-action 'none'"
-COLUMNS = ["Place", "Level", "Message", "Rule", "State", "Tool"]
 VOID = {"meta", "input", "br", "hr", "col", "wbr"}
 ELEMENTS = VOID | set("html head title style body header main footer section div span p".split())
 ELEMENTS |= set("h1 h2 h3 table caption colgroup thead tbody tfoot tr th td code a".split())
-ELEMENTS |= set("fieldset legend label nav b".split())
+ELEMENTS |= set("fieldset legend label nav b i details summary ul li pre mark".split())
 LOADING = ("src", "srcset", "data", "action", "formaction", "poster", "ping", "background", "cite")
 ENTITIES = {"amp": "&", "lt": "<", "gt": ">", "quot": '"', "apos": "'"}
 REFERENCES = {"#39": "'", "#x27": "'", "#34": '"', "#x22": '"', "#38": "&", "#60": "<", "#62": ">"}
+# The links of the page to its own parts.
+INNER = re.compile(r"#(hits|others|f[1-9][0-9]*)")
+# Where a path or a rule may be broken.
+BREAK = re.compile(r"(?<=[-._/:])<wbr>|(?<=[a-z])<wbr>(?=[A-Z])")
 # The one sentence of the page itself that has an apostrophe.
 NOT_SHOWN = re.compile(r"1 other result isn't shown\.|\d+ other results aren't shown\.")
 
@@ -114,6 +119,7 @@ class PageReader(HTMLParser):
     def faults(self):
         wrong = list(self.wrong)
         wrong += ["it doesn't begin with its type"] * (self.told != ["DOCTYPE html"])
+        wrong += ["a break within a part"] * (len(BREAK.findall(self.source)) != self.source.count("<wbr>"))
         wrong += self.of_head() + self.of_elements() + self.of_tables()
         return wrong or self.outline()
 
@@ -149,7 +155,7 @@ class PageReader(HTMLParser):
             loads = [it for it in ("url(", "@import", "image(", "src(") if it in style.text]
             wrong += [f"the style has {it}" for it in loads]
         for link in self.top.all("a"):
-            if link.given.get("href") in ("#hits", "#others"):
+            if INNER.fullmatch(link.given.get("href", "")):
                 wrong += ["a link to nothing"] * (link.given["href"][1:] not in seen)
                 continue
             wrong += ["a link without rel"] * (link.given.get("rel") != "noopener noreferrer")
@@ -192,26 +198,68 @@ class PageReader(HTMLParser):
             )
         return wrong
 
-    def tables(self):
-        """The name, the heading and the rows of each table of results, and what is wrong with the rows."""
+    def lists(self):
+        """Each list of results, and what is wrong with it."""
         found, wrong = [], []
         for section in self.top.all("section"):
-            rows = []
-            for row in section.first("tbody").within:
-                cells = [it.text for it in row.within]
-                names = [it.name for it in row.within]
-                wrong += [f"a row of {names}"] * (names != ["th"] + ["td"] * 5)
-                link = row.first("a")
-                given = [row.given.get(f"data-{name}") for name in ("level", "state")]
-                wrong += [f"the data {given} beside {cells}"] * (given != [cells[1], cells[4]])
-                is_rule = link is None or link.text == cells[3]
-                wrong += ["a link that isn't the rule"] * (not is_rule)
-                rows.append((cells, row.given.get("data-hit"), link and link.given["href"]))
-            heading = section.first("h2")
-            found.append((heading.given["id"], heading.text, rows))
-            names = [it.text for it in section.first("thead").all("th")]
-            wrong += [f"the columns are {names}"] * (names != COLUMNS)
+            heading, gone, *rest = section.within
+            is_told = gone.name == "p" and gone.text == GONE and "hidden" in gone.given
+            wrong += ["a list without the sentence on filters"] * (heading.name != "h2" or not is_told)
+            index = []
+            if rest and rest[0].given.get("class") == "rules":
+                index = self.index(rest.pop(0), wrong)
+            groups = [it for it in rest if "id" in it.given]
+            later = rest[len(groups) :]
+            wrong += [f"{len(later)} ends"] * (len(later) > 1 or rest[: len(groups)] != groups)
+            told = [self.group(it, wrong) for it in groups]
+            more = []
+            for it in later:
+                summary, *after = it.within
+                more.append(summary.text)
+                told += [self.group(one, wrong) for one in after]
+                wrong += ["the end of a list is open or a group"] * ("open" in it.given or "id" in it.given)
+                wrong += ["the end of a list is not told by pairs"] * (not told_pairs(it))
+            found.append(ListOf(heading.given["id"], heading.text, told_pairs(section), index, told, more))
         return found, wrong
+
+    def index(self, it, wrong):
+        """The texts of the index of rules."""
+        summary, table, *ends = it.within
+        wrong += ["the index is open"] * ("open" in it.given)
+        columns = [one.text for one in table.first("thead").all("th")]
+        wrong += [f"the index has {columns}"] * (columns != COLUMNS)
+        rows = []
+        for row in table.first("tbody").within:
+            number, rule, tool, place = row.within
+            links = [one.first("a") for one in (rule, place)]
+            texts = [one.text for one in (number, rule, tool, place)]
+            rows.append((texts, *(link and link.given["href"] for link in links)))
+        return [summary.text, rows, [one.text for one in ends]]
+
+    def group(self, it, wrong):
+        """A group of rows."""
+        summary, rows = it.within
+        heading, numbers = summary.within
+        wrong += [f"a group of {summary.name}, {rows.name}"] * ((summary.name, rows.name) != ("summary", "ul"))
+        wrong += [f"the heading {heading.name}"] * (heading.name != "h3")
+        found = [self.row(row, wrong) for row in rows.within]
+        pairs = sorted({f"{row[0][1]}-{row[0][4]}" for row in found})
+        wrong += [f"the group {it.given['id']} has {told_pairs(it)}"] * (pairs != told_pairs(it))
+        return GroupOf(it.given["id"], "open" in it.given, heading.text, numbers.text, found)
+
+    def row(self, row, wrong):
+        """The texts of a row, whether it is a hit, and the link of its rule or None."""
+        place, level, message, *code, last = row.within
+        names = [it.name for it in (level, message, *code, last)]
+        wrong += [f"a row of {names}"] * (names not in (["b", "p", "div"], ["b", "p", "pre", "div"]))
+        *rule, source = last.within
+        state = source.first("b")
+        link = last.first("a")
+        tool = source.text[len(state.text) + 1 :]
+        texts = [place.text, level.text, message.text, "".join(it.text for it in rule), state.text, tool]
+        given = [row.given.get(f"data-{name}") for name in ("level", "state")]
+        wrong += [f"the data {given} beside {texts}"] * (given != [texts[1], texts[4]])
+        return texts, row.given.get("data-hit"), link and link.given["href"]
 
     def counts(self):
         """The numbers of the first table by state, and the states and levels whose numbers are marked."""
@@ -248,7 +296,13 @@ class PageReader(HTMLParser):
 
     def paragraphs(self, name):
         """The paragraphs of the header or of the main part."""
-        return [it.text for it in self.top.first(name).all("p")]
+        part = self.top.first(name)
+        return [it.text for it in (part.all("p") if name == "header" else part.within) if it.name == "p"]
+
+
+def told_pairs(element):
+    """The levels and states by which the filters show a part."""
+    return sorted(element.given.get("data-has", "").split())
 
 
 def walked(element):
@@ -269,7 +323,7 @@ def page_faults(source, reports):
     wrong = page.faults()
     if wrong:
         return wrong[:5]
-    tables, wrong = page.tables()
+    lists, wrong = page.lists()
     pairs = {
         "title": (page.of("title"), [wanted.heading()]),
         "heading": (page.of("h1"), [wanted.heading()]),
@@ -280,11 +334,21 @@ def page_faults(source, reports):
         "rest": (page.paragraphs("main"), wanted.rest()),
     }
     wrong += [f"{name}: {one}, and not {it}" for name, (one, it) in pairs.items() if one != it]
-    names = [it[:2] for it in wanted.tables()]
-    wrong += [f"the tables are {tables}"[:300]] * ([it[:2] for it in tables] != names)
-    for (name, _, rows), (_, _, others) in zip(tables, wanted.tables()):
-        for number, (one, other) in enumerate(zip(rows, others)):
-            if one != other:
-                return [*wrong, f"row {number} of {name} is {one}, and not {other}"][:5]
-        wrong += [f"{len(rows)} {name}, and not {len(others)}"] * (len(rows) != len(others))
+    for one, other in zip(lists, wanted.lists()):
+        wrong += list_faults(one, other)
+    names = [[it.name for it in lists], [it.name for it in wanted.lists()]]
+    wrong += [f"the lists are {names[0]}, and not {names[1]}"] * (names[0] != names[1])
     return wrong[:5]
+
+
+def list_faults(one, other):
+    """What is wrong with a list of results."""
+    of = lambda it: (it.name, it.heading, it.pairs, it.index, it.more, len(it.groups))
+    wrong = [f"the list {of(one)}, and not {of(other)}"] * (of(one) != of(other))
+    for group, known in zip(one.groups, other.groups):
+        of = lambda it: (it.name, it.is_open, it.heading, it.numbers, len(it.rows))
+        wrong += [f"the group {of(group)}, and not {of(known)}"] * (of(group) != of(known))
+        for number, (row, wanted) in enumerate(zip(group.rows, known.rows)):
+            if row != wanted:
+                return [*wrong, f"row {number} of {group.name} is {row}, and not {wanted}"]
+    return wrong

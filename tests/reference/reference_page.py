@@ -4,9 +4,12 @@ It follows crates/sarif_page/README.md sentence by sentence, and takes the repor
 `reference_reports.Reports`. It shares no code with the program.
 """
 
+from dataclasses import dataclass
+
 from reference_reports import LEVELS, MOST_PAGE_ROWS, STATES, accept_line, unshown_line
 
 FALLING = tuple(reversed(LEVELS))
+MOST_GROUPED, MOST_GROUPS, MOST_OPEN, MOST_RULES = 50, 100, 20, 100
 LEVELS_FROM = {
     "error": "of level error",
     "warning": "of level warning or error",
@@ -41,6 +44,61 @@ def by_file(results):
     return [it for group in groups.values() for it in group]
 
 
+def groups_of(rows, number, room):
+    """The groups of a list: at most 50 rows of one file each, numbered from this number on."""
+    files, groups = {}, []
+    for it in rows:
+        files.setdefault(it.path, []).append(it)
+    for path, of_file in files.items():
+        for start in range(0, len(of_file), MOST_GROUPED):
+            part = of_file[start : start + MOST_GROUPED]
+            heading = (path or "No path") + part_text(start, len(part), len(of_file))
+            name = f"f{number + len(groups)}"
+            groups.append(GroupOf(name, room > 0, heading, numbers_text(part), [row_of(it) for it in part]))
+            room -= len(part)
+    return groups
+
+
+def part_text(start, count, whole):
+    """Which rows of its file a group has, if it doesn't have all."""
+    if whole <= MOST_GROUPED:
+        return ""
+    span = f"{start + 1}" if count == 1 else f"{start + 1} to {start + count}"
+    return f", {span} of {whole}"
+
+
+def numbers_text(rows):
+    """As `1 error, 2 notes`."""
+    numbers = [(level, sum(it.level == level for it in rows)) for level in FALLING]
+    named = lambda level, n: f"{n} of level none" if level == "none" else counted(n, level, f"{level}s")
+    return ", ".join(named(level, n) for level, n in numbers if n)
+
+
+def index_of(results, rows, groups):
+    """The texts of the index of rules of a list: its heading, its rows, and what follows them."""
+    rules, firsts = {}, {}
+    for it in results:
+        rules.setdefault((it.rule, it.tool), []).append(it)
+    in_order = iter(rows)
+    for group in groups:
+        for _ in group.rows:
+            it = next(in_order)
+            firsts.setdefault((it.rule, it.tool), (f"#{group.name}", it.path or "No path"))
+    named = sorted(((key, it) for key, it in rules.items() if key[0]), key=lambda it: -len(it[1]))
+    told = []
+    for (rule, tool), some in named[:MOST_RULES]:
+        link, path = firsts.get((rule, tool), (None, ""))
+        told.append(([str(len(some)), rule, tool, path], some[0].link, link))
+    more = len(named) - len(told)
+    ends = [counted(more, "more rule", "more rules")] * (more > 0)
+    return [counted(len(named), "rule", "rules"), told, ends] if named else []
+
+
+def pairs_in(rows):
+    """The levels and states of rows, as the page notes them for its filters."""
+    return sorted({f"{it.level}-{it.state}" for it in rows})
+
+
 def more_text(number, hits):
     """How many results have no row, and how many of them are hits."""
     if hits == number:
@@ -49,6 +107,29 @@ def more_text(number, hits):
         return counted(number, "more result is", "more results are") + " in the merged log."
     of_them = "1 of them a hit" if hits == 1 else f"{hits} of them hits"
     return f"{number} more results are in the merged log, {of_them}."
+
+
+@dataclass
+class GroupOf:
+    """A group of rows: its name, whether it is open, its heading, its numbers by level, and its rows."""
+
+    name: str
+    is_open: bool
+    heading: str
+    numbers: str
+    rows: list
+
+
+@dataclass
+class ListOf:
+    """A list of results: its name, its heading, its groups, and what says how many results the last ones have."""
+
+    name: str
+    heading: str
+    pairs: list
+    index: list
+    groups: list
+    more: list
 
 
 class PageOf:
@@ -74,7 +155,7 @@ class PageOf:
         return f"A hit is a result that is {joined(states)}, {levels}, and not suppressed."
 
     def links(self):
-        """The links to the two tables, if there are both."""
+        """The links to the two lists, if there are both."""
         both = self.hit_rows and self.other_rows
         texts = (hits_text(len(self.hits)), others_text(len(self.others)))
         return list(zip(("#hits", "#others"), texts)) if both else []
@@ -101,17 +182,27 @@ class PageOf:
         states = [it for it in STATES if any(it == row.state for row in self.rows)]
         return {name: it for name, it in (("Level", levels), ("State", states)) if len(it) > 1}
 
-    def tables(self):
-        """The heading and the rows of each table that there is."""
+    def lists(self):
+        """Each list that there is."""
         stops = counted(len(self.hits), "hit stops", "hits stop") + " this change"
         passes = f"{hits_text(len(self.hits))}, within the {self.policy.max} allowed"
         of_hits = stops if self.reports.verdict() == "fail" else passes
-        found = [("hits", of_hits, self.hit_rows)]
-        found.append(("others", others_text(len(self.others)), self.other_rows))
-        return [(name, heading, [row_of(it) for it in rows]) for name, heading, rows in found if rows]
+        found, number, room = [], 1, MOST_OPEN
+        named = [("hits", of_hits, self.hit_rows)]
+        named.append(("others", others_text(len(self.others)), self.other_rows))
+        for name, heading, rows in named:
+            if not rows:
+                continue
+            groups = groups_of(rows, number, room)
+            later = rows[sum(len(it.rows) for it in groups[:MOST_GROUPS]) :]
+            more = [counted(len(later), "more result", "more results") + " " + numbers_text(later)] * bool(later)
+            index = index_of(self.hits or self.others, rows, groups) if room else []
+            found.append(ListOf(name, heading, pairs_in(rows), index, groups, more))
+            number, room = number + len(groups), 0
+        return found
 
     def rest(self):
-        """The lines after the tables, as many as there are."""
+        """The lines after the lists, as many as there are."""
         unshown = [unshown_line(self.reports.unshown)] * (self.reports.unshown > 0)
         if not self.reports.results:
             return unshown or ["No results are reported."]

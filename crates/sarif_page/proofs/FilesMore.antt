@@ -220,7 +220,7 @@ module _ (fs : List Finding) where
   rows_at : List ℕ → List Finding
   rows_at file = filter (is_in file) fs
 
-  here : (before after : List (List ℕ)) (file : List ℕ) → has_file (before ++ (file ∷ after)) file ≡ true
+  pub here : (before after : List (List ℕ)) (file : List ℕ) → has_file (before ++ (file ∷ after)) file ≡ true
   here before after file =
       list_any-append (λ own. bytes_eq file own) before (file ∷ after)
       ∙ ap (λ b. has_file before file || (b || has_file after file)) (text_self file) ∙ last (has_file before file)
@@ -252,7 +252,7 @@ kept_some q [] h = absurd (true≢false (sym h))
 kept_some q (f ∷ fs) h = some_by (is_in q f) q f fs refl h (kept_some q fs)
 
 -- each file has a row
-at_least : (fs : List Finding) (before files after : List (List ℕ)) → before ++ (files ++ after) ≡ files_of fs
+pub at_least : (fs : List Finding) (before files after : List (List ℕ)) → before ++ (files ++ after) ≡ files_of fs
     → length files ≤ length (flat_map (λ file. filter (is_in file) fs) files)
 at_least fs before [] after whole = omega arith
 at_least fs before (file ∷ files) after whole =

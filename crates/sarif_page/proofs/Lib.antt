@@ -1,4 +1,9 @@
+pub mod BreaksApart
+pub mod BrokenMore
 pub mod FilesMore
-pub mod PlacesApart
+pub mod GroupsMore
+pub mod GroupsWhole
+pub mod IndexMore
 pub mod RowsByFile
+pub mod RulesMore
 pub mod TagsCounted

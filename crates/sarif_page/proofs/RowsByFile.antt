@@ -265,7 +265,7 @@ none_left before (f ∷ fs) =
     left_by (has_file (files_of (before ++ (f ∷ fs))) file) f (filter (λ g. not (has_file (files_of (before ++ (f ∷ fs))) (file_of g))) fs) seen
     (ap (λ l. filter (λ g. not (has_file (files_of l) (file_of g))) fs) (sym (append_assoc before (f ∷ []) fs)) ∙ none_left (before ++ f ∷ []) fs)
 
-once_by_file : (p : Finding → Bool) (fs : List Finding) → count_by p (by_file fs) ≡ count_by p fs
+pub once_by_file : (p : Finding → Bool) (fs : List Finding) → count_by p (by_file fs) ≡ count_by p fs
 once_by_file p fs =
     let all = total p fs (files_of fs) (files_apart fs) in
     let none = ap (λ l. count_by p l) (none_left [] fs) in
@@ -281,7 +281,7 @@ count_all (f ∷ fs) =
     let rest = count_all fs in
     omega (arith, first, rest)
 
-length_by_file : (fs : List Finding) → length (by_file fs) ≡ length fs
+pub length_by_file : (fs : List Finding) → length (by_file fs) ≡ length fs
 length_by_file fs = sym (count_all (by_file fs)) ∙ once_by_file (λ f. true) fs ∙ count_all fs
 
 length_halves : (fs : List Finding) → length (hits_among fs) + length (others_among fs) ≡ length fs

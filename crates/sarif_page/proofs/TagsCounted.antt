@@ -1,5 +1,6 @@
--- The tags of a page's rows.
-use Rattle.std.proofs.Common.{◌≡◌, ◌+◌, ◌==◌, ◌++◌, ℕ, Bool, true, false, not, ◌&&◌, ◌||◌, cond, List, [], ◌∷◌, Option, Some, None, codes, chars, flat_map, append-nil, if◌then◌else◌, refl, sym, ap, ap₂, ◌∙◌, arith}
+-- The tags and the quotes of a page's rows.
+use Rattle.std.proofs.Common.{◌≡◌, ◌+◌, ◌==◌, ◌++◌, ℕ, Bool, true, false, not, ◌&&◌, ◌||◌, cond, List, [], ◌∷◌, Option, Some, None, codes, chars, append-nil, if◌then◌else◌, refl, sym, ap, ap₂, ◌∙◌, arith}
+use Rattle.std.specs.Fmt.{decimal}
 use Rattle.std.specs.List.{sum_by, count_by}
 use Rattle.std.proofs.lemmas.Bool.{and_parts, or_parts, not-true}
 use Rattle.std.proofs.lemmas.List.Sums.{sum_by-append, sum_by-cons}
@@ -9,137 +10,167 @@ use Rattle.sarif_model.specs.declared.kinds.State.{State}
 use Rattle.sarif_model.specs.declared.kinds.State.TheVariants.{New, Unchanged, Updated, Absent}
 use Rattle.sarif_model.specs.Level.{level_name}
 use Rattle.sarif_model.specs.State.{state_name}
-use Rattle.sarif_shown.specs.declared.escaping.Escaping.TheVariants.{Page, Place}
+use Rattle.sarif_shown.specs.declared.escaping.Escaping.TheVariants.{Page}
 use Rattle.sarif_findings.specs.declared.finding.Finding.{Finding}
-use Rattle.sarif_shown.specs.Escaped.{escaped, page_char, place_char}
+use Rattle.sarif_shown.specs.Escaped.{escaped, page_char}
 use Rattle.sarif_shown.specs.EscapedLaws.{is_element_text, is_markup, begins_entity}
 use Rattle.sarif_findings.specs.Finding.{numbered, place_path}
-use Rattle.sarif_page.specs.HtmlLaws.{tags_in, rule_tags, position_tags, place_tags, row_tags}
-use Rattle.sarif_page.specs.HtmlReport.{hit_word, row_class, row_data, row_front, marked, place_of, place_cell, level_cell, linked_to, rule_cell, message_cells, tool_cells, result_row, is_same_file, rows_below}
+use Rattle.sarif_page.specs.HtmlBreaks.{break_if, broken, broken_after, broken_char, breaks_after, breaks_in, ends_part, is_capital, is_small}
+use Rattle.sarif_page.specs.HtmlRow.{hit_word, row_data, row_front, spot_at, whole_file, spot_in, place_of, place_cell, message_cells, linked_to, rule_cell, tool_cells, result_row, rows_html, linked}
+use Rattle.sarif_page.specs.HtmlLaws.{tags_in, quotes_in, rule_tags, rule_quotes, place_tags, place_quotes, row_tags, row_quotes}
 use Rattle.sarif_shown.proofs.EscapedApart.{page_apart, page_chars}
 
--- the string contains this many tags
-record Tags (count : ℕ) (text : List ℕ) : Type 0 where
-  told : tags_in text ≡ count
+-- the string has this many tags and quotes
+record Marks (tags quotes : ℕ) (text : List ℕ) : Type 0 where
+  tagged : tags_in text ≡ tags
+  quoted : quotes_in text ≡ quotes
 
-fixed : (text : List ℕ) (n : ℕ) → tags_in text ≡ n → Tags n text
-fixed text n e = record { told = e }
+fixed : (text : List ℕ) (m n : ℕ) → tags_in text ≡ m → quotes_in text ≡ n → Marks m n text
+fixed text m n e f = record { tagged = e; quoted = f }
 
 -- two pieces
-then_tags : {a b : List ℕ} {m n : ℕ} → Tags m a → Tags n b → Tags (m + n) (a ++ b)
-then_tags {a} {b} first second =
-    record { told = sum_by-append (λ c. cond (c == 60) 1 0) a b ∙ ap₂ (λ x y. x + y) first.told second.told }
+then_marks : {a b : List ℕ} {m n p q : ℕ} → Marks m p a → Marks n q b → Marks (m + n) (p + q) (a ++ b)
+then_marks {a} {b} first second = record {
+  tagged = sum_by-append (λ c. cond (c == 60) 1 0) a b ∙ ap₂ (λ x y. x + y) first.tagged second.tagged;
+  quoted = sum_by-append (λ c. cond (c == 34) 1 0) a b ∙ ap₂ (λ x y. x + y) first.quoted second.quoted;
+}
 
 -- an escaped text
-none_in : (text : List ℕ) → is_element_text text ≡ true → tags_in text ≡ 0
-none_in [] h = refl
+none_in : (text : List ℕ) → is_element_text text ≡ true → Marks 0 0 text
+none_in [] h = record { tagged = refl; quoted = refl }
 none_in (b ∷ bs) h =
     let parts = and_parts (not (is_markup b)) ((not (b == 38) || begins_entity (b ∷ bs)) && is_element_text bs) h in
     let tests = or_parts (b == 60) (b == 62 || (b == 34 || b == 39)) (not-true (is_markup b) parts.0) in
-    let none = ap (λ t. cond {A = ℕ} t 1 0) tests.0 in
-    let first = sum_by-cons (λ c. cond (c == 60) 1 0) b bs in
+    let more = or_parts (b == 62) (b == 34 || b == 39) tests.1 in
+    let last = or_parts (b == 34) (b == 39) more.1 in
+    let no_tag = ap (λ t. cond {A = ℕ} t 1 0) tests.0 in
+    let no_quote = ap (λ t. cond {A = ℕ} t 1 0) last.0 in
     let rest = none_in bs (and_parts (not (b == 38) || begins_entity (b ∷ bs)) (is_element_text bs) parts.1).1 in
-    omega (arith, none, first, rest)
+    record {
+      tagged = omega (arith, no_tag, sum_by-cons (λ c. cond (c == 60) 1 0) b bs, rest.tagged);
+      quoted = omega (arith, no_quote, sum_by-cons (λ c. cond (c == 34) 1 0) b bs, rest.quoted);
+    }
 
-escaped_none : (text : List ℕ) → Tags 0 (escaped Page text)
-escaped_none text = record { told = none_in (escaped Page text) (page_apart text) }
+escaped_none : (text : List ℕ) → Marks 0 0 (escaped Page text)
+escaped_none text = none_in (escaped Page text) (page_apart text)
 
-level_none : (l : Level) → Tags 0 (level_name l)
-level_none NoLevel = record { told = refl }
-level_none Note = record { told = refl }
-level_none Warning = record { told = refl }
-level_none Error = record { told = refl }
+level_none : (l : Level) → Marks 0 0 (level_name l)
+level_none NoLevel = record { tagged = refl; quoted = refl }
+level_none Note = record { tagged = refl; quoted = refl }
+level_none Warning = record { tagged = refl; quoted = refl }
+level_none Error = record { tagged = refl; quoted = refl }
 
-state_none : (s : State) → Tags 0 (state_name s)
-state_none New = record { told = refl }
-state_none Unchanged = record { told = refl }
-state_none Updated = record { told = refl }
-state_none Absent = record { told = refl }
+state_none : (s : State) → Marks 0 0 (state_name s)
+state_none New = record { tagged = refl; quoted = refl }
+state_none Unchanged = record { tagged = refl; quoted = refl }
+state_none Updated = record { tagged = refl; quoted = refl }
+state_none Absent = record { tagged = refl; quoted = refl }
 
-hit_none : (hit : Bool) → Tags 0 (hit_word hit)
-hit_none true = record { told = refl }
-hit_none false = record { told = refl }
+hit_none : (hit : Bool) → Marks 0 0 (hit_word hit)
+hit_none true = record { tagged = refl; quoted = refl }
+hit_none false = record { tagged = refl; quoted = refl }
 
-class_one : (again : Bool) → Tags 1 (row_class again)
-class_one true = record { told = refl }
-class_one false = record { told = refl }
+data_marks : {level state hit : List ℕ} → Marks 0 0 level → Marks 0 0 state → Marks 0 0 hit → Marks 1 6 (row_data level state hit)
+data_marks l s h =
+    then_marks (fixed (codes "<li data-level=\"") 1 1 refl refl) (then_marks l (then_marks (fixed (codes "\" data-state=\"") 0 2 refl refl)
+    (then_marks s (then_marks (fixed (codes "\" data-hit=\"") 0 2 refl refl) (then_marks h (fixed (codes "\">") 0 1 refl refl))))))
 
-data_two : {level state hit : List ℕ} → Tags 0 level → Tags 0 state → Tags 0 hit → Tags 2 (row_data level state hit)
-data_two l s h =
-    then_tags (fixed (codes " data-level=\"") 0 refl) (then_tags l (then_tags (fixed (codes "\" data-state=\"") 0 refl)
-    (then_tags s (then_tags (fixed (codes "\" data-hit=\"") 0 refl) (then_tags h (fixed (codes "\"><th scope=\"row\"><code>") 2 refl))))))
-
-front_three : (again : Bool) (f : Finding) → Tags 3 (row_front again f)
+front_marks : (f : Finding) → Marks 1 6 (row_front f)
 unfolding row_front
-front_three again f =
-    then_tags (class_one again) (data_two (level_none f.level) (state_none f.state) (hit_none f.hit))
+front_marks f = data_marks (level_none f.level) (state_none f.state) (hit_none f.hit)
 
--- a path, whose slashes are followed by breaks
-break_by : (b : Bool) (c : ℕ) → Tags (cond b 1 0) (if b then codes "/<wbr>" else page_char c)
-break_by true c = record { told = refl }
-break_by false c =
-    record { told = sym (ap tags_in (append-nil (page_char c))) ∙ none_in (page_char c ++ []) (page_chars (c ∷ [])) }
+-- a rule with its breaks
+break_marks : (b : Bool) → Marks (if b then 1 else 0) 0 (break_if b)
+break_marks true = record { tagged = refl; quoted = refl }
+break_marks false = record { tagged = refl; quoted = refl }
 
-breaks : (cs : List ℕ) → Tags (count_by (λ c. c == 47) cs) (flat_map place_char cs)
-breaks [] = record { told = refl }
-breaks (c ∷ cs) =
-    let whole = (then_tags (break_by (c == 47) c) (breaks cs)).told in
-    record { told = whole ∙ sym (sum_by-cons (λ b. cond (b == 47) 1 0) c cs) }
+char_none : (c : ℕ) → Marks 0 0 (page_char c)
+char_none c =
+    let one = none_in (page_char c ++ []) (page_chars (c ∷ [])) in
+    record {
+      tagged = sym (ap tags_in (append-nil (page_char c))) ∙ one.tagged;
+      quoted = sym (ap quotes_in (append-nil (page_char c))) ∙ one.quoted;
+    }
 
-path_tags : (text : List ℕ) → Tags (count_by (λ c. c == 47) (chars text)) (escaped Place text)
-unfolding escaped
-path_tags text = breaks (chars text)
+chars_marks : (small : Bool) (cs : List ℕ) → Marks (breaks_after small cs) 0 (broken_after small cs)
+chars_marks small [] = record { tagged = refl; quoted = refl }
+chars_marks small (c ∷ cs) =
+    let whole = then_marks (then_marks (break_marks (small && is_capital c)) (then_marks (char_none c) (break_marks (ends_part c)))) (chars_marks (is_small c) cs) in
+    record { tagged = whole.tagged ∙ omega arith; quoted = whole.quoted }
 
-marked_tags : (position : List ℕ) → Tags (position_tags position) (marked position)
-marked_tags [] = record { told = refl }
-marked_tags (b ∷ bs) =
-    then_tags (fixed (codes "<b>") 1 refl) (then_tags (escaped_none (b ∷ bs)) (fixed (codes "</b>") 1 refl))
+broken_marks : (text : List ℕ) → Marks (breaks_in text) 0 (broken text)
+unfolding broken
+broken_marks text = chars_marks false (chars text)
 
-place_counted : (path : Option (List ℕ)) (line column : Option ℕ) → Tags (place_tags path line column) (place_of path line column)
-place_counted None line column = record { told = refl }
-place_counted (Some path) line column = then_tags (path_tags (place_path path)) (marked_tags (numbered line ++ numbered column))
+spot_marks : (path : List ℕ) (line column : Option ℕ) → Marks 4 (place_quotes (Some path) line) (spot_in path line column)
+spot_marks path None column =
+    then_marks (fixed (codes "<code class=\"all\"><i>") 2 2 refl refl)
+    (then_marks (escaped_none (place_path path ++ numbered column)) (fixed (codes "</i></code>") 2 0 refl refl))
+spot_marks path (Some line) column =
+    then_marks (fixed (codes "<code><i>") 2 0 refl refl) (then_marks (escaped_none (place_path path)) (then_marks (fixed (codes ":</i>") 1 0 refl refl)
+    (then_marks (escaped_none (decimal line ++ numbered column)) (fixed (codes "</code>") 1 0 refl refl))))
 
-cell_counted : (f : Finding) → Tags (place_tags f.path f.line f.column) (place_cell f)
+place_marks : (path : Option (List ℕ)) (line column : Option ℕ) → Marks (place_tags path) (place_quotes path line) (place_of path line column)
+place_marks None line column = record { tagged = refl; quoted = refl }
+place_marks (Some path) line column = spot_marks path line column
+
+cell_marks : (f : Finding) → Marks (place_tags f.path) (place_quotes f.path f.line) (place_cell f)
 unfolding place_cell
-cell_counted f = place_counted f.path f.line f.column
+cell_marks f = place_marks f.path f.line f.column
 
-link_four : (rule uri : List ℕ) → Tags 4 (linked_to rule uri)
+link_marks : (rule uri : List ℕ) → Marks (4 + breaks_in rule) 4 (linked_to rule uri)
 unfolding linked_to
-link_four rule uri =
-    then_tags (fixed (codes "<a href=\"") 1 refl) (then_tags (escaped_none uri)
-    (then_tags (fixed (codes "\" rel=\"noopener noreferrer\"><code>") 1 refl) (then_tags (escaped_none rule) (fixed (codes "</code></a>") 2 refl))))
+link_marks rule uri =
+    let whole =
+    then_marks (fixed (codes "<a href=\"") 1 1 refl refl) (then_marks (escaped_none uri)
+    (then_marks (fixed (codes "\" rel=\"noopener noreferrer\"><code>") 1 3 refl refl)
+    (then_marks (broken_marks rule) (fixed (codes "</code></a>") 2 0 refl refl)))) in
+    record { tagged = whole.tagged ∙ omega arith; quoted = whole.quoted }
 
-rule_counted : (rule : List ℕ) (help : Option (List ℕ)) → Tags (rule_tags rule help) (rule_cell rule help)
-rule_counted [] help = record { told = refl }
-rule_counted (b ∷ bs) None =
-    then_tags (fixed (codes "<code>") 1 refl) (then_tags (escaped_none (b ∷ bs)) (fixed (codes "</code>") 1 refl))
-rule_counted (b ∷ bs) (Some uri) = link_four (b ∷ bs) uri
+plain_marks : (rule : List ℕ) → Marks (2 + breaks_in rule) 0 (codes "<code>" ++ (broken rule ++ codes "</code>"))
+plain_marks rule =
+    let whole =
+    then_marks (fixed (codes "<code>") 1 0 refl refl) (then_marks (broken_marks rule) (fixed (codes "</code>") 1 0 refl refl)) in
+    record { tagged = whole.tagged ∙ omega arith; quoted = whole.quoted }
 
-level_seven : {level : List ℕ} → Tags 0 level → Tags 7 (level_cell level)
-level_seven l =
-    then_tags (fixed (codes "</code></th><td><span>") 4 refl) (then_tags l (fixed (codes "</span></td><td>") 3 refl))
+-- with a space after it
+spaced : {text : List ℕ} {m n : ℕ} → Marks m n text → Marks m n (text ++ codes " ")
+spaced marks =
+    let whole = then_marks marks (fixed (codes " ") 0 0 refl refl) in
+    record { tagged = whole.tagged ∙ omega arith; quoted = whole.quoted ∙ omega arith }
 
-message_counted : (f : Finding) → Tags (7 + (0 + (2 + rule_tags f.rule f.help))) (message_cells f)
+rule_marks : (rule : List ℕ) (help : Option (List ℕ)) → Marks (rule_tags rule help) (rule_quotes rule help) (rule_cell rule help)
+rule_marks [] help = record { tagged = refl; quoted = refl }
+rule_marks (b ∷ bs) None = spaced (plain_marks (b ∷ bs))
+rule_marks (b ∷ bs) (Some uri) = spaced (link_marks (b ∷ bs) uri)
+
+message_marks : (f : Finding) → Marks 5 0 (message_cells f)
 unfolding message_cells
-message_counted f =
-    then_tags (level_seven (level_none f.level)) (then_tags (escaped_none f.message)
-    (then_tags (fixed (codes "</td><td>") 2 refl) (rule_counted f.rule f.help)))
+message_marks f =
+    then_marks (fixed (codes " <b>") 1 0 refl refl) (then_marks (level_none f.level) (then_marks (fixed (codes "</b> <p>") 2 0 refl refl)
+    (then_marks (escaped_none f.message) (fixed (codes "</p> <div>") 2 0 refl refl))))
 
-tool_six : (f : Finding) → Tags 6 (tool_cells f)
+tool_marks : (f : Finding) → Marks 6 0 (tool_cells f)
 unfolding tool_cells
-tool_six f =
-    then_tags (fixed (codes "</td><td>") 2 refl) (then_tags (state_none f.state) (then_tags (fixed (codes "</td><td>") 2 refl)
-    (then_tags (escaped_none f.tool) (fixed (codes "</td></tr>\n") 2 refl))))
+tool_marks f =
+    then_marks (fixed (codes "<span><b>") 2 0 refl refl) (then_marks (state_none f.state) (then_marks (fixed (codes "</b> ") 1 0 refl refl)
+    (then_marks (escaped_none f.tool) (fixed (codes "</span></div></li>\n") 3 0 refl refl))))
 
-row_counted : (again : Bool) (f : Finding) → tags_in (result_row again f) ≡ row_tags f
+row_marks : (f : Finding) → Marks (row_tags f) (row_quotes f) (result_row f)
 unfolding result_row
-row_counted again f =
-    let whole = (then_tags (front_three again f) (then_tags (cell_counted f) (then_tags (message_counted f) (tool_six f)))).told in
-    whole ∙ omega arith
+row_marks f =
+    let whole =
+    then_marks (front_marks f) (then_marks (cell_marks f) (then_marks (message_marks f) (then_marks (rule_marks f.rule f.help) (tool_marks f)))) in
+    record { tagged = whole.tagged ∙ omega arith; quoted = whole.quoted ∙ omega arith }
 
-pub rows_counted : (above : Option (List ℕ)) (fs : List Finding) → tags_in (rows_below above fs) ≡ sum_by row_tags fs
-rows_counted above [] = refl
-rows_counted above (f ∷ fs) =
-    (then_tags (fixed (result_row (is_same_file above f.path) f) (row_tags f) (row_counted (is_same_file above f.path) f))
-    (fixed (rows_below f.path fs) (sum_by row_tags fs) (rows_counted f.path fs))).told
-    ∙ sym (sum_by-cons row_tags f fs)
+rows_marks : (fs : List Finding) → Marks (sum_by row_tags fs) (sum_by row_quotes fs) (rows_html fs)
+rows_marks [] = record { tagged = refl; quoted = refl }
+rows_marks (f ∷ fs) =
+    let whole = then_marks (row_marks f) (rows_marks fs) in
+    record { tagged = whole.tagged ∙ sym (sum_by-cons row_tags f fs); quoted = whole.quoted ∙ sym (sum_by-cons row_quotes f fs) }
+
+pub tags_counted : (fs : List Finding) → tags_in (rows_html fs) ≡ sum_by row_tags fs
+tags_counted fs = (rows_marks fs).tagged
+
+pub quotes_counted : (fs : List Finding) → quotes_in (rows_html fs) ≡ sum_by row_quotes fs
+quotes_counted fs = (rows_marks fs).quoted

@@ -53,33 +53,33 @@ header_end =
 unfoldable pub filters_begin : List ℕ
 filters_begin = codes "<div class=\"filters\" hidden>\n"
 
--- after the boxes
+-- after the boxes: a sentence that a style displays if a box is off
 unfoldable pub filters_end : List ℕ
-filters_end = codes "</div>\n"
+filters_end =
+    codes "<p>These filters hide some rows. The numbers count all.</p>\n" ++ (
+    codes "</div>\n")
 
--- between the two names of a section
-unfoldable pub section_middle : List ℕ
-section_middle =
-    codes "\">\n" ++ (
-    codes "<table class=\"results\" width=\"100%\" rules=\"rows\" cellpadding=\"6\">\n" ++ (
-    codes "<caption><h2 id=\""))
+-- below the heading of a list: a sentence that a style displays if the boxes exclude all its rows
+unfoldable pub gone_line : List ℕ
+gone_line = codes "<p class=\"gone\" hidden>The filters hide all of these.</p>\n"
 
--- between the heading of a section and its rows
-unfoldable pub section_heads : List ℕ
-section_heads =
-    codes "</h2></caption>\n" ++ (
+-- the index of rules, after the number of rules, up to its rows
+unfoldable pub index_begin : List ℕ
+index_begin =
+    codes "</summary>\n" ++ (
+    codes "<table>\n" ++ (
+    codes "<caption>Results of each rule</caption>\n" ++ (
     codes
-    "<thead align=\"left\"><tr><th scope=\"col\">Place</th><th scope=\"col\">Level</th><th scope=\"col\">Message</th><th scope=\"col\">Rule</th><th scope=\"col\">State</th><th scope=\"col\">Tool</th></tr></thead>\n" ++ (
-    codes "<tbody align=\"left\" valign=\"top\">\n"))
+    "<thead><tr><th scope=\"col\">Number</th><th scope=\"col\">Rule</th><th scope=\"col\">Tool</th><th scope=\"col\">First in</th></tr></thead>\n" ++ (
+    codes "<tbody>\n"))))
 
--- after the rows of a section
-unfoldable pub section_end : List ℕ
-section_end =
+-- after its rows
+unfoldable pub index_end : List ℕ
+index_end =
     codes "</tbody>\n" ++ (
-    codes "</table>\n" ++ (
-    codes "</section>\n"))
+    codes "</table>\n")
 
--- instead of the tables of results
+-- instead of the lists of results
 unfoldable pub nothing_reported : List ℕ
 nothing_reported = codes "<p class=\"empty\">No results are reported.</p>\n"
 

@@ -1,6 +1,5 @@
--- The page: the verdict, the counts, and the first reported results. Strings of a log are only in element
--- text and in `href`, escaped.
-use Rattle.std.specs.Prelude.{ℕ, ◌+◌, ◌-◌, Bool, true, false, ◌&&◌, ◌||◌, ◌==◌, List, [], ◌∷◌, ◌++◌, length, Option, Some, None, codes, bytes_eq, flat_map, map, nat_lt, if◌then◌else◌}
+-- The page: the verdict, the counts, and the first reported results.
+use Rattle.std.specs.Prelude.{ℕ, ◌+◌, ◌-◌, Bool, true, false, ◌&&◌, ◌||◌, ◌==◌, List, [], ◌∷◌, ◌++◌, length, codes, flat_map, map, nat_lt, if◌then◌else◌}
 use Rattle.std.specs.List.{list_any}
 use Rattle.std.specs.Fmt.{decimal}
 use Rattle.sarif_model.specs.declared.kinds.Level.{Level}
@@ -18,12 +17,10 @@ use Rattle.sarif_counts.specs.Tally.{same_level}
 use Rattle.sarif_shown.specs.CountRow.{numbers_of}
 use Rattle.sarif_shown.specs.declared.count_row.CountRow.{CountRow}
 use Rattle.sarif_findings.specs.declared.finding.Finding.{Finding}
-use Rattle.sarif_shown.specs.declared.escaping.Escaping.TheVariants.{Page, Place}
-use Rattle.sarif_findings.specs.Finding.{numbered, place_path}
-use Rattle.sarif_shown.specs.Escaped.{escaped}
 use Rattle.sarif_shown.specs.Facts.{Facts}
-use Rattle.sarif_page.specs.HtmlFixed.{page_begin, title_end, body_begin, counts_begin, counts_end, filters_begin, filters_end, section_middle, section_heads, section_end, header_end, nothing_reported, page_end}
-use Rattle.sarif_page.specs.HtmlRows.{Tables, tables_of}
+use Rattle.sarif_page.specs.HtmlFixed.{page_begin, title_end, body_begin, counts_begin, counts_end, filters_begin, filters_end, header_end, nothing_reported, page_end}
+use Rattle.sarif_page.specs.HtmlGroups.{Part, most_open, section_if}
+use Rattle.sarif_page.specs.HtmlRows.{Tables, groups_of, tables_of}
 use Rattle.sarif_page.specs.HtmlStyle.{style}
 use Rattle.sarif_page.specs.HtmlWords.{reason, hits_heading, others_text}
 use Rattle.sarif_shown.specs.Sentences.{accept_text, entries_text, gate_end, gate_text, hits_text, more_text, runs_text, unshown_text}
@@ -43,7 +40,7 @@ heading verdict hits max =
 unfoldable pub reason_line : Policy → List ℕ
 reason_line policy = codes "<p>" ++ (reason policy ++ codes "</p>\n")
 
--- links to the two tables, if there are both
+-- links to the two lists, if there are both
 unfoldable pub links_to : ℕ → ℕ → List ℕ
 links_to hits others =
     codes "<nav aria-label=\"Results\"><a href=\"#hits\">" ++ (hits_text hits
@@ -143,104 +140,7 @@ filters_by levels states =
 unfoldable pub filters_of : List Finding → List ℕ
 filters_of rows = filters_by (levels_in rows) (states_in rows)
 
--- ---- the rows
-
-abbrev pub hit_word : Bool → List ℕ
-hit_word true = codes "yes"
-hit_word false = codes "no"
-
--- a row below another of the same file
-abbrev pub row_class : Bool → List ℕ
-row_class true = codes "<tr class=\"again\""
-row_class false = codes "<tr"
-
-abbrev pub row_data : List ℕ → List ℕ → List ℕ → List ℕ
-row_data level state hit =
-    codes " data-level=\"" ++ (level
-    ++ (codes "\" data-state=\"" ++ (state
-    ++ (codes "\" data-hit=\"" ++ (hit ++ codes "\"><th scope=\"row\"><code>")))))
-
-unfoldable pub row_front : Bool → Finding → List ℕ
-row_front again f =
-    row_class again ++ row_data (level_name f.level) (state_name f.state) (hit_word f.hit)
-
--- the line and the column, if there are any
-abbrev pub marked : List ℕ → List ℕ
-marked [] = []
-marked (b ∷ bs) = codes "<b>" ++ (escaped Page (b ∷ bs) ++ codes "</b>")
-
--- a path, which may be broken after each slash, and the position in it
-abbrev pub spot_in : List ℕ → List ℕ → List ℕ
-spot_in path position = escaped Place (place_path path) ++ marked position
-
--- the place of the text report
-abbrev pub place_of : Option (List ℕ) → Option ℕ → Option ℕ → List ℕ
-place_of None line column = codes "-"
-place_of (Some path) line column =
-    spot_in path (numbered line ++ numbered column)
-
-unfoldable pub place_cell : Finding → List ℕ
-place_cell f = place_of f.path f.line f.column
-
-abbrev pub level_cell : List ℕ → List ℕ
-level_cell level =
-    codes "</code></th><td><span>" ++ (level ++ codes "</span></td><td>")
-
--- a rule that links to its page
-unfoldable pub linked_to : List ℕ → List ℕ → List ℕ
-linked_to rule uri =
-    codes "<a href=\"" ++ (escaped Page uri
-    ++ (codes "\" rel=\"noopener noreferrer\"><code>" ++ (escaped Page rule ++ codes "</code></a>")))
-
--- a rule, which links to its page if there is one
-abbrev pub linked : List ℕ → Option (List ℕ) → List ℕ
-linked rule None = codes "<code>" ++ (escaped Page rule ++ codes "</code>")
-linked rule (Some uri) = linked_to rule uri
-
--- no link without a rule
-abbrev pub rule_cell : List ℕ → Option (List ℕ) → List ℕ
-rule_cell [] help = []
-rule_cell (b ∷ bs) help = linked (b ∷ bs) help
-
-unfoldable pub message_cells : Finding → List ℕ
-message_cells f =
-    level_cell (level_name f.level) ++ (escaped Page f.message
-    ++ (codes "</td><td>" ++ rule_cell f.rule f.help))
-
-unfoldable pub tool_cells : Finding → List ℕ
-tool_cells f =
-    codes "</td><td>" ++ (state_name f.state ++ (codes "</td><td>"
-    ++ (escaped Page f.tool ++ codes "</td></tr>\n")))
-
-unfoldable pub result_row : Bool → Finding → List ℕ
-result_row again f = row_front again f ++ (place_cell f ++ (message_cells f ++ tool_cells f))
-
-abbrev pub is_same_file : Option (List ℕ) → Option (List ℕ) → Bool
-is_same_file None path = false
-is_same_file (Some above) None = false
-is_same_file (Some above) (Some path) = bytes_eq above path
-
--- the rows of these results, below one of that path
-abbrev pub rows_below : Option (List ℕ) → List Finding → List ℕ
-rows_below above [] = []
-rows_below above (f ∷ fs) = result_row (is_same_file above f.path) f ++ rows_below f.path fs
-
--- ---- the tables
-
--- a section, up to its rows
-abbrev pub section_begin : List ℕ → List ℕ → List ℕ
-section_begin name heading =
-    codes "<section aria-labelledby=\"" ++ (name ++ (section_middle ++ (name
-    ++ (codes "\">" ++ (heading ++ section_heads)))))
-
--- a table of these rows, with the name of its section and its heading
-unfoldable pub section_of : List ℕ → List ℕ → List Finding → List ℕ
-section_of name heading rows =
-    section_begin name heading ++ (rows_below None rows ++ section_end)
-
--- nothing if there are no rows
-unfoldable pub section_if : List ℕ → List ℕ → List Finding → List ℕ
-section_if name heading rows = if length rows == 0 then [] else section_of name heading rows
+-- ---- the lists
 
 -- how many results have no row, and how many of these are hits
 unfoldable pub more_line : ℕ → ℕ → List ℕ
@@ -257,10 +157,35 @@ rest_line unshown tables =
     ((tables.all_hits - length tables.hits) + (tables.all_others - length tables.others))
     (tables.all_hits - length tables.hits)
 
+-- the room for open groups in the others: there is some if they are the first list
+abbrev pub others_room : List Finding → ℕ
+others_room hits = if length hits == 0 then most_open else 0
+
+-- the list of hits
+abbrev pub hits_part : Verdict → ℕ → Tables → Part
+hits_part verdict max tables = record {
+  name = codes "hits";
+  heading = hits_heading verdict tables.all_hits max;
+  room = most_open;
+  number = 1;
+  rules = tables.rules;
+  all_rules = tables.all_rules;
+}
+
+-- the list of the others, which has an index only if it is the first
+abbrev pub others_part : Tables → Part
+others_part tables = record {
+  name = codes "others";
+  heading = others_text tables.all_others;
+  room = others_room tables.hits;
+  number = length (groups_of tables.hits) + 1;
+  rules = if length tables.hits == 0 then tables.rules else [];
+  all_rules = tables.all_rules;
+}
+
 unfoldable pub sections : Verdict → ℕ → Tables → List ℕ
 sections verdict max tables =
-    section_if (codes "hits") (hits_heading verdict tables.all_hits max) tables.hits
-    ++ section_if (codes "others") (others_text tables.all_others) tables.others
+    section_if (hits_part verdict max tables) tables.hits ++ section_if (others_part tables) tables.others
 
 -- how many reported results are not shown, if there are any
 unfoldable pub unshown_line : ℕ → List ℕ

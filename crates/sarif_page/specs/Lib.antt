@@ -1,7 +1,12 @@
+pub mod HtmlBreaks
 pub mod HtmlFixed
+pub mod HtmlGroups
+pub mod HtmlIndex
 pub mod HtmlLaws
 pub mod HtmlReport
+pub mod HtmlRow
 pub mod HtmlRows
+pub mod HtmlRules
 pub mod HtmlStyle
 pub mod HtmlWords
 pub mod Internal

@@ -12,13 +12,13 @@ use std::alloc::{AllocError, Global};
 use std::hash::RandomState;
 
 /// Findings by file.
-type Groups<'f> = IndexMap<&'f str, Vec<&'f Finding>, RandomState>;
+pub(crate) type Groups<'f> = IndexMap<&'f str, Vec<&'f Finding>, RandomState>;
 
 /// Some files in the order of first appearance, and the findings of each of them in order.
 #[derive(Drop)]
-struct Grouped<'f> {
-    files: Vec<&'f str>,
-    groups: Groups<'f>,
+pub(crate) struct Grouped<'f> {
+    pub(crate) files: Vec<&'f str>,
+    pub(crate) groups: Groups<'f>,
 }
 
 /// The path of a finding, or the empty string if there is no path.
@@ -85,7 +85,7 @@ impl<'f> Grouped<'f> {
     }
 
     /// Groups these findings by the first files, `most` of them or fewer.
-    fn of(
+    pub(crate) fn of(
         alloc: Global,
         seed: RandomState,
         findings: &[&'f Finding],

@@ -5,7 +5,8 @@ ghost use Rattle.sarif_model.specs.Level.{level_name};
 ghost use Rattle.sarif_model.specs.State.{state_name};
 ghost use Rattle.sarif_counts.specs.Counts.{same_state as state_is};
 ghost use Rattle.sarif_counts.specs.Tally.{same_level as level_is};
-ghost use Rattle.sarif_page.specs.Internal.ByFile.{findings_in, tables_in};
+ghost use Rattle.sarif_page.specs.Internal.ByFile.{findings_in};
+ghost use Rattle.sarif_page.specs.Internal.Lists.{tables_in};
 ghost use Rattle.sarif_page.specs.HtmlReport as said;
 
 use crate::html_fixed::{filters_begin, filters_end};
@@ -14,7 +15,7 @@ use sarif_findings::Finding;
 use sarif_model::{Level, State};
 use std::alloc::{AllocError, Global};
 
-fn same_level(one: Level, other: Level) -> bool
+pub(crate) fn same_level(one: Level, other: Level) -> bool
     ensures { result ≡ level_is one other }
 {
     match one {
@@ -25,7 +26,7 @@ fn same_level(one: Level, other: Level) -> bool
     }
 }
 
-fn same_state(one: State, other: State) -> bool
+pub(crate) fn same_state(one: State, other: State) -> bool
     ensures { result ≡ state_is one other }
 {
     match one {

@@ -95,46 +95,47 @@ pub(crate) fn filters_end() -> &'static str
     ensures { result.now ≡ fixed.filters_end }
 {
     "\
+<p>These filters hide some rows. The numbers count all.</p>
 </div>
 "
 }
 
-/// Between the two names of a section.
-#[tactic(auto, unfolding(crate::specs::HtmlFixed::section_middle))]
-pub(crate) fn section_middle() -> &'static str
-    ensures { result.now ≡ fixed.section_middle }
+/// Below the heading of a list.
+#[tactic(auto, unfolding(crate::specs::HtmlFixed::gone_line))]
+pub(crate) fn gone_line() -> &'static str
+    ensures { result.now ≡ fixed.gone_line }
 {
     "\
-\">
-<table class=\"results\" width=\"100%\" rules=\"rows\" cellpadding=\"6\">
-<caption><h2 id=\""
-}
-
-/// Between the heading of a section and its rows.
-#[tactic(auto, unfolding(crate::specs::HtmlFixed::section_heads))]
-pub(crate) fn section_heads() -> &'static str
-    ensures { result.now ≡ fixed.section_heads }
-{
-    "\
-</h2></caption>
-<thead align=\"left\"><tr><th scope=\"col\">Place</th><th scope=\"col\">Level</th><th scope=\"col\">Message</th><th scope=\"col\">Rule</th><th scope=\"col\">State</th><th scope=\"col\">Tool</th></tr></thead>
-<tbody align=\"left\" valign=\"top\">
+<p class=\"gone\" hidden>The filters hide all of these.</p>
 "
 }
 
-/// After the rows of a section.
-#[tactic(auto, unfolding(crate::specs::HtmlFixed::section_end))]
-pub(crate) fn section_end() -> &'static str
-    ensures { result.now ≡ fixed.section_end }
+/// The index of rules, after the number of rules, up to its rows.
+#[tactic(auto, unfolding(crate::specs::HtmlFixed::index_begin))]
+pub(crate) fn index_begin() -> &'static str
+    ensures { result.now ≡ fixed.index_begin }
+{
+    "\
+</summary>
+<table>
+<caption>Results of each rule</caption>
+<thead><tr><th scope=\"col\">Number</th><th scope=\"col\">Rule</th><th scope=\"col\">Tool</th><th scope=\"col\">First in</th></tr></thead>
+<tbody>
+"
+}
+
+/// After the rows of the index.
+#[tactic(auto, unfolding(crate::specs::HtmlFixed::index_end))]
+pub(crate) fn index_end() -> &'static str
+    ensures { result.now ≡ fixed.index_end }
 {
     "\
 </tbody>
 </table>
-</section>
 "
 }
 
-/// Instead of the tables of results.
+/// Instead of the lists of results.
 #[tactic(auto, unfolding(crate::specs::HtmlFixed::nothing_reported))]
 pub(crate) fn nothing_reported() -> &'static str
     ensures { result.now ≡ fixed.nothing_reported }

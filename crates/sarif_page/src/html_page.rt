@@ -1,19 +1,24 @@
 //! The page of a merge.
-ghost use Rattle.std.specs.Prelude.{◌≡◌, ◌<◌, ◌+◌, ◌^◌, ◌++◌, IfOk, OnOk, string_bytes};
-ghost use Rattle.sarif_page.specs.Internal.ByFile.{tables_in};
+ghost use Rattle.std.specs.Prelude.{◌≡◌, ◌<◌, ◌+◌, ◌^◌, ◌++◌, ◌==◌, length, IfOk, OnOk, string_bytes, if◌then◌else◌};
+ghost use Rattle.sarif_page.specs.Internal.ByFile.{findings_in};
+ghost use Rattle.sarif_page.specs.Internal.Lists.{tables_in};
 ghost use Rattle.sarif_shown.specs.Facts.{facts_of};
+ghost use Rattle.sarif_page.specs.HtmlGroups.{section_if};
 ghost use Rattle.sarif_page.specs.HtmlReport as said;
+ghost use Rattle.sarif_page.specs.HtmlRows.{groups_of};
 
 use crate::html_counts::push_counts;
 use crate::html_filters::push_filters;
 use crate::html_fixed::{
     body_begin, header_end, nothing_reported, page_begin, page_end, title_end,
 };
-use crate::html_rows::push_section;
+use crate::html_lists::{List, MOST_OPEN, push_section};
 use crate::html_style::push_style;
 use crate::html_tables::{Rows, rows_of};
 use crate::html_words::{hits_heading, others_text, reason};
+use crate::rules::Index;
 use sarif_counts::{Verdict, hits, verdict};
+use sarif_findings::Finding;
 use sarif_options::Policy;
 use sarif_shown::{
     ReportInput, accept_text, entries_text, gate_end, gate_text, hits_text, more_text, runs_text,
@@ -79,7 +84,7 @@ fn push_top(
     Ok(())
 }
 
-/// Links to the two tables.
+/// Links to the two lists.
 #[tactic(auto, unfolding(crate::specs::HtmlReport::links_to))]
 fn links_to(alloc: Global, hits: usize, others: usize) -> Result<String, AllocError>
     ensures { IfOk result (λ s. string_bytes s ≡ said.links_to hits others) }
@@ -91,7 +96,7 @@ fn links_to(alloc: Global, hits: usize, others: usize) -> Result<String, AllocEr
     )
 }
 
-/// Adds links to the two tables, if there are both.
+/// Adds links to the two lists, if there are both.
 #[tactic(auto, unfolding(crate::specs::HtmlReport::links))]
 fn push_links(alloc: Global, text: &mut String, rows: &Rows<'_>) -> Result<(), AllocError>
     ensures { OnOk result
@@ -197,7 +202,74 @@ fn push_rest(
     Ok(())
 }
 
-/// Adds the tables.
+/// The rules of the others: there is an index only if they are the first list.
+fn others_index<'a, 'f>(rows: &'a Rows<'f>, none: &'a Index<'f>) -> &'a Index<'f>
+    ensures { result.now ≡ (if length (tables_in rows.now).hits == 0 then rows.now.index else none.now) }
+{
+    if rows.hits.is_empty() {
+        &rows.index
+    } else {
+        none
+    }
+}
+
+/// The room for open groups in the others: there is some if they are the first list.
+fn others_room(hits: &[&Finding]) -> usize
+    ensures { result ≡ said.others_room (findings_in hits.now) }
+{
+    if hits.is_empty() { MOST_OPEN } else { 0 }
+}
+
+/// Adds the list of hits. Returns how many groups it has.
+fn push_hit_list(
+    alloc: Global,
+    text: &mut String,
+    verdict: Verdict,
+    max: u32,
+    rows: &Rows<'_>,
+) -> Result<usize, AllocError>
+    ensures list { OnOk result (string_bytes text.new ≡ string_bytes text.old
+        ++ section_if (said.hits_part verdict max (tables_in rows.now)) (tables_in rows.now).hits) }
+    ensures number { IfOk result (λ n. n ≡ length (groups_of (tables_in rows.now).hits)) }
+    ensures few { IfOk result (λ n. n < 2 ^ 61) }
+{
+    let heading = hits_heading(alloc, verdict, rows.all_hits, max)?;
+    let list = List {
+        name: "hits",
+        heading: heading.as_str(),
+        room: MOST_OPEN,
+        number: 1,
+        index: &rows.index,
+    };
+    push_section(alloc, text, rows.seed, &list, &rows.hits)
+}
+
+/// Adds the list of the others, after this number of groups.
+fn push_other_list(
+    alloc: Global,
+    text: &mut String,
+    before: usize,
+    rows: &Rows<'_>,
+) -> Result<(), AllocError>
+    requires groups { before ≡ length (groups_of (tables_in rows.now).hits) }
+    requires few { before < 2 ^ 61 }
+    ensures { OnOk result (string_bytes text.new ≡ string_bytes text.old
+        ++ section_if (said.others_part (tables_in rows.now)) (tables_in rows.now).others) }
+{
+    let heading = others_text(alloc, rows.all_others)?;
+    let none = Index::empty(alloc, rows.index.all);
+    let list = List {
+        name: "others",
+        heading: heading.as_str(),
+        room: others_room(&rows.hits),
+        number: before + 1,
+        index: others_index(rows, &none),
+    };
+    push_section(alloc, text, rows.seed, &list, &rows.others)?;
+    Ok(())
+}
+
+/// Adds the lists.
 #[tactic(auto, unfolding(crate::specs::HtmlReport::sections))]
 fn push_sections(
     alloc: Global,
@@ -209,10 +281,8 @@ fn push_sections(
     ensures { OnOk result (string_bytes text.new
         ≡ string_bytes text.old ++ said.sections verdict max (tables_in rows.now)) }
 {
-    let hits = hits_heading(alloc, verdict, rows.all_hits, max)?;
-    let others = others_text(alloc, rows.all_others)?;
-    push_section(alloc, text, "hits", hits.as_str(), &rows.hits)?;
-    push_section(alloc, text, "others", others.as_str(), &rows.others)?;
+    let before = push_hit_list(alloc, text, verdict, max, rows)?;
+    push_other_list(alloc, text, before, rows)?;
     Ok(())
 }
 
@@ -230,7 +300,7 @@ fn push_unshown(alloc: Global, text: &mut String, unshown: u32) -> Result<(), Al
     Ok(())
 }
 
-/// Adds the boxes and the tables.
+/// Adds the boxes, the lists and the sentences on what has no row.
 #[tactic(auto, unfolding(crate::specs::HtmlReport::results_of))]
 fn push_results(
     alloc: Global,
@@ -241,8 +311,8 @@ fn push_results(
     unshown: u32,
 ) -> Result<(), AllocError>
     requires { rows.now.all_hits + rows.now.all_others < 2 ^ 64 }
-    ensures { OnOk result (string_bytes text.new
-        ≡ string_bytes text.old ++ said.results_of verdict max (tables_in rows.now) unshown) }
+    ensures { OnOk result (string_bytes text.new ≡ string_bytes text.old
+        ++ said.results_of verdict max (tables_in rows.now) unshown) }
 {
     push_filters(alloc, text, rows)?;
     push_sections(alloc, text, verdict, max, rows)?;

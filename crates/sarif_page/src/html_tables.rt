@@ -1,10 +1,12 @@
 //! Which results have a row on a page.
-ghost use Rattle.std.specs.Prelude.{◌≡◌, ◌<◌, ◌+◌, ◌^◌, IfOk};
-ghost use Rattle.sarif_page.specs.Internal.ByFile.{findings_in, tables_in};
+ghost use Rattle.std.specs.Prelude.{◌≡◌, ◌<◌, ◌+◌, ◌^◌, ◌==◌, length, IfOk, if◌then◌else◌};
+ghost use Rattle.sarif_page.specs.Internal.ByFile.{findings_in};
+ghost use Rattle.sarif_page.specs.Internal.Lists.{tables_in};
 ghost use Rattle.sarif_page.specs.HtmlRows.{tables_of};
 ghost use Rattle.sarif_shown.specs.Listed.{hits_among as hits_in, others_among as others_in};
 
 use crate::by_file::by_file;
+use crate::rules::{Index, index_of};
 use sarif_findings::Finding;
 use sarif_shown::{push_hits, push_others};
 use std::alloc::{AllocError, Global};
@@ -13,7 +15,7 @@ use std::hash::RandomState;
 /// The maximum number of rows.
 const MOST_ROWS: usize = 10_000;
 
-/// The rows of the two tables.
+/// The rows of the two lists.
 #[derive(Drop)]
 pub(crate) struct Rows<'f> {
     /// Hits, by file.
@@ -24,6 +26,10 @@ pub(crate) struct Rows<'f> {
     pub(crate) all_hits: usize,
     /// The number of other results, with a row or not.
     pub(crate) all_others: usize,
+    /// The rules of the first list that there is.
+    pub(crate) index: Index<'f>,
+    /// The seed of the tables by file.
+    pub(crate) seed: RandomState,
 }
 
 fn hits_among(alloc: Global, findings: &[Finding]) -> Result<Vec<&Finding>, AllocError>
@@ -42,6 +48,13 @@ fn others_among(alloc: Global, findings: &[Finding]) -> Result<Vec<&Finding>, Al
     Ok(others)
 }
 
+/// The results of the first list that there is.
+fn first_list<'a, 'f>(hits: &'a [&'f Finding], others: &'a [&'f Finding]) -> &'a [&'f Finding]
+    ensures { result.now ≡ (if length hits.now == 0 then others.now else hits.now) }
+{
+    if hits.is_empty() { others } else { hits }
+}
+
 /// Chooses the rows of these findings: the first `MOST_ROWS` of the hits by file, then of the others by file.
 #[tactic(auto, unfolding(crate::specs::HtmlRows::hit_rows, crate::specs::HtmlRows::other_rows))]
 pub(crate) fn rows_of(
@@ -56,10 +69,13 @@ pub(crate) fn rows_of(
     let others = others_among(alloc, findings)?;
     let hit_rows = by_file(alloc, seed, &hits, MOST_ROWS)?;
     let other_rows = by_file(alloc, seed, &others, MOST_ROWS - hit_rows.len())?;
+    let index = index_of(alloc, seed, first_list(&hits, &others))?;
     Ok(Rows {
         hits: hit_rows,
         others: other_rows,
         all_hits: hits.len(),
         all_others: others.len(),
+        index,
+        seed,
     })
 }

@@ -1,15 +1,16 @@
 //! Laws of the page. Each law is the contract of a function that does nothing. A log may be hostile, so the laws
 //! cover any strings.
 ghost use Rattle.std.specs.Prelude.{◌≡◌, ◌≤◌, ℕ, List, Bool, true};
-ghost use Rattle.std.specs.Prelude.{not, ◌&&◌, [], None};
+ghost use Rattle.std.specs.Prelude.{not, ◌&&◌, []};
 ghost use Rattle.std.specs.Prelude.{length};
 ghost use Rattle.std.specs.List.{count_by, list_all, sum_by};
 ghost use Rattle.sarif_findings.specs.declared.finding.Finding.{Finding};
-ghost use Rattle.sarif_shown.specs.declared.escaping.Escaping.TheVariants.{Page, Place};
+ghost use Rattle.sarif_shown.specs.declared.escaping.Escaping.TheVariants.{Page};
 ghost use Rattle.sarif_shown.specs.Escaped.{escaped};
 ghost use Rattle.sarif_shown.specs.EscapedLaws.{is_element_text};
-ghost use Rattle.sarif_page.specs.HtmlLaws.{are_together, has_breaks, row_tags, tags_in};
-ghost use Rattle.sarif_page.specs.HtmlReport.{rows_below};
+ghost use Rattle.sarif_page.specs.HtmlBreaks.{broken};
+ghost use Rattle.sarif_page.specs.HtmlRow.{rows_html};
+ghost use Rattle.sarif_page.specs.HtmlLaws.{are_together, has_breaks, quotes_in, row_quotes, row_tags, tags_in};
 ghost use Rattle.sarif_page.specs.HtmlRows as page;
 
 /// A string in a page contains no `<`, `>`, `"` or `'`, and each `&` of it begins an entity: no string makes a tag
@@ -18,13 +19,14 @@ pub fn page_texts_hold_no_markup()
     ensures { (text : List ℕ) → is_element_text (escaped Page text) ≡ true }
 {}
 
-/// A path in a page contains none of these either, except that `<wbr>` follows each of its slashes.
-pub fn page_places_have_only_breaks()
-    ensures { (text : List ℕ) → has_breaks [] (escaped Place text) ≡ true }
+/// A path or a rule in a page contains none of these either, except that `<wbr>` is after `-`, `.`, `_`, `/` and `:`,
+/// and between a small letter and a capital.
+pub fn page_paths_have_only_breaks()
+    ensures { (text : List ℕ) → has_breaks [] (broken text) ≡ true }
 {}
 
-/// A page has at most 10,000 rows: hits in the first table, other results in the second, and in each table the rows
-/// of one file together. If no more results are reported, each of them has exactly one row.
+/// A page has at most 10,000 rows: hits in the first list, other results in the second, and in each list the rows of
+/// one file together. If no more results are reported, each of them has exactly one row.
 #[tactic(auto, using(crate::proofs::RowsByFile::rows_most, crate::proofs::RowsByFile::rows_are_hits, crate::proofs::RowsByFile::rows_are_others, crate::proofs::RowsByFile::rows_together, crate::proofs::RowsByFile::rows_once))]
 pub fn page_rows_are_by_file()
     ensures most { (findings : List Finding) →
@@ -40,8 +42,19 @@ pub fn page_rows_are_by_file()
         → count_by test (page.page_rows findings) ≡ count_by test findings }
 {}
 
-/// Each row of a page has only its own tags, for any strings of its result: no log adds a tag or a cell.
+/// The groups of a list have its rows, file by file, and each of them once.
+pub fn page_groups_have_each_row()
+    ensures rows { (rows : List Finding) →
+        page.grouped_rows (page.groups_of rows) ≡ page.by_file rows }
+    ensures once { (rows : List Finding) (test : Finding → Bool) →
+        count_by test (page.grouped_rows (page.groups_of rows)) ≡ count_by test rows }
+{}
+
+/// Each row of a page has only its own tags and attributes, for any strings of its result: no log adds a tag, an
+/// attribute or a cell.
 pub fn page_rows_have_their_tags()
-    ensures { (findings : List Finding) → tags_in (rows_below None findings)
+    ensures tags { (findings : List Finding) → tags_in (rows_html findings)
         ≡ sum_by row_tags findings }
+    ensures quotes { (findings : List Finding) → quotes_in (rows_html findings)
+        ≡ sum_by row_quotes findings }
 {}

@@ -8,8 +8,7 @@ use Rattle.std.specs.declared.alloc.Global.{Global}
 use Rattle.std.specs.declared.vec.Vec.{Vec}
 use Rattle.sarif_findings.specs.declared.finding.Finding.{Finding}
 use Rattle.sarif_page.specs.declared.by_file.Grouped.{Grouped}
-use Rattle.sarif_page.specs.declared.html_tables.Rows.{Rows}
-use Rattle.sarif_page.specs.HtmlRows.{Tables, files_of, is_in}
+use Rattle.sarif_page.specs.HtmlRows.{files_of, is_in}
 
 abbrev pub findings_in : List (Bor Finding) → List Finding
 findings_in refs = map (λ f. f.now) refs
@@ -45,11 +44,3 @@ rows_at groups file = unwrap_or (group_at groups file) []
 -- the findings of all groups, file by file
 abbrev pub all_rows : Grouped → List Finding
 all_rows grouped = flat_map (rows_at grouped.groups) (map (λ file. file.now) grouped.files.items)
-
-abbrev pub tables_in : Rows → Tables
-tables_in rows = record {
-  hits = findings_in rows.hits.items;
-  others = findings_in rows.others.items;
-  all_hits = rows.all_hits;
-  all_others = rows.all_others;
-}

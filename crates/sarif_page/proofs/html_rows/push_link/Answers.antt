@@ -1,15 +1,15 @@
-use Rattle.std.proofs.Common.{append_assoc}
-use Rattle.sarif_page.specs.HtmlReport.{linked_to}
+use Rattle.std.proofs.Common.{append_assoc, append-nil}
+use Rattle.sarif_page.specs.HtmlRow.{linked_to}
 use Rattle.sarif_page.proofs.html_rows.push_link.Goals as goal
 
 pub returns : goal.returns
 unfolding linked_to
 returns c =
     rw (
-      c.in_ok-push_str-5.ensures.bytes,
-      c.in_ok-push_str-4.ensures,
+      c.in_ok-push_str-4.ensures.bytes,
+      c.in_ok-push_broken.ensures,
       c.in_ok-push_str-3.ensures.bytes,
       c.in_ok-push_str-2.ensures,
       c.in_ok-push_str.ensures.bytes,
     )
-    (simp append_assoc)
+    (simp (append_assoc, append-nil))

@@ -1,5 +1,5 @@
 use Rattle.std.proofs.Common.{append_assoc}
-use Rattle.sarif_page.specs.HtmlReport.{tool_cells}
+use Rattle.sarif_page.specs.HtmlRow.{tool_cells}
 use Rattle.sarif_page.proofs.html_rows.push_tool_cells.Goals as goal
 
 pub returns : goal.returns

@@ -1,7 +1,0 @@
-use Rattle.std.proofs.Common.{append_assoc}
-use Rattle.sarif_page.proofs.html_rows.push_level.Goals as goal
-
-pub returns : goal.returns
-returns c =
-    rw (c.in_ok-push_str-3.ensures.bytes, c.in_ok-push_str-2.ensures.bytes, c.in_ok-push_str.ensures.bytes)
-    (simp append_assoc)
