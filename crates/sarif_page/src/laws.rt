@@ -1,6 +1,6 @@
 //! Laws of the page. Each law is the contract of a function that does nothing. A log may be hostile, so the laws
 //! cover any strings.
-ghost use Rattle.std.specs.Prelude.{◌≡◌, ◌≤◌, ℕ, List, Bool, true};
+ghost use Rattle.std.specs.Prelude.{◌≡◌, ◌≤◌, ◌+◌, ℕ, List, Bool, true};
 ghost use Rattle.std.specs.Prelude.{not, ◌&&◌, []};
 ghost use Rattle.std.specs.Prelude.{length};
 ghost use Rattle.std.specs.List.{count_by, list_all, sum_by};
@@ -40,6 +40,16 @@ pub fn page_rows_are_by_file()
     ensures once { (findings : List Finding) (test : Finding → Bool) →
         length findings ≤ page.most_rows
         → count_by test (page.page_rows findings) ≡ count_by test findings }
+{}
+
+/// Each result has a row of a page or is counted in the line on those that have none, and so is each hit.
+pub fn page_rows_count_all_results()
+    ensures hits { (findings : List Finding) →
+        length (page.hit_rows findings) + page.hits_left (page.tables_of findings)
+        ≡ count_by (λ f. f.hit) findings }
+    ensures others { (findings : List Finding) →
+        length (page.other_rows findings) + page.others_left (page.tables_of findings)
+        ≡ count_by (λ f. not f.hit) findings }
 {}
 
 /// The groups of a list have its rows, file by file, and each of them once.
