@@ -63,13 +63,9 @@ tables_of findings = record {
   all_rules = length (rules_of (first_list findings));
 }
 
--- how many hits have no row
-abbrev pub hits_left : Tables → ℕ
-hits_left tables = tables.all_hits - length tables.hits
-
--- how many other results have no row
-abbrev pub others_left : Tables → ℕ
-others_left tables = tables.all_others - length tables.others
+-- how many of this number of results have no row, if these have one
+abbrev pub without_row : ℕ → List Finding → ℕ
+without_row all rows = all - length rows
 
 -- ---- the groups
 

@@ -8,6 +8,7 @@ ghost use Rattle.sarif_findings.specs.declared.finding.Finding.{Finding};
 ghost use Rattle.sarif_shown.specs.declared.escaping.Escaping.TheVariants.{Page};
 ghost use Rattle.sarif_shown.specs.Escaped.{escaped};
 ghost use Rattle.sarif_shown.specs.EscapedLaws.{is_element_text};
+ghost use Rattle.sarif_shown.specs.Listed.{hits_among, others_among};
 ghost use Rattle.sarif_page.specs.HtmlBreaks.{broken};
 ghost use Rattle.sarif_page.specs.HtmlRow.{rows_html};
 ghost use Rattle.sarif_page.specs.HtmlLaws.{are_together, has_breaks, quotes_in, row_quotes, row_tags, tags_in};
@@ -45,10 +46,12 @@ pub fn page_rows_are_by_file()
 /// Each result has a row of a page or is counted in the line on those that have none, and so is each hit.
 pub fn page_rows_count_all_results()
     ensures hits { (findings : List Finding) →
-        length (page.hit_rows findings) + page.hits_left (page.tables_of findings)
+        length (page.hit_rows findings)
+        + page.without_row (length (hits_among findings)) (page.hit_rows findings)
         ≡ count_by (λ f. f.hit) findings }
     ensures others { (findings : List Finding) →
-        length (page.other_rows findings) + page.others_left (page.tables_of findings)
+        length (page.other_rows findings)
+        + page.without_row (length (others_among findings)) (page.other_rows findings)
         ≡ count_by (λ f. not f.hit) findings }
 {}
 
