@@ -1,8 +1,8 @@
 //! Laws of the page. Each law is the contract of a function that does nothing. A log may be hostile, so the laws
 //! cover any strings.
-ghost use Rattle.std.specs.Prelude.{◌≡◌, ◌≤◌, ◌+◌, ℕ, List, Bool, true};
+ghost use Rattle.std.specs.Prelude.{◌≡◌, ◌≤◌, ℕ, List, Bool, true};
 ghost use Rattle.std.specs.Prelude.{not, ◌&&◌, []};
-ghost use Rattle.std.specs.Prelude.{length};
+ghost use Rattle.std.specs.Prelude.{◌+◌, length};
 ghost use Rattle.std.specs.List.{count_by, list_all, sum_by};
 ghost use Rattle.sarif_findings.specs.declared.finding.Finding.{Finding};
 ghost use Rattle.sarif_shown.specs.declared.escaping.Escaping.TheVariants.{Page};
