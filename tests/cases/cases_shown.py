@@ -820,8 +820,8 @@ def indexed():
     wanted = has(without=['class="rules"'])
     yield report("the page: no index without rules", log_of([bare("T", "")]), {"html": wanted})
     many = [bare("T", f"R{it}", "m", True) for it in (*range(102), 101)]
-    first = index_row(2, "R101", "T", 1, "No path") + index_row(1, "R0", "T", 1, "No path")
-    last = index_row(1, "R98", "T", 1, "No path") + "</tbody>\n</table>\n<p>2 more rules</p>\n</details>\n"
+    first = index_row(2, "R101", "T", 3, "No path") + index_row(1, "R0", "T", 1, "No path")
+    last = index_row(1, "R98", "T", 2, "No path") + "</tbody>\n</table>\n<p>2 more rules</p>\n</details>\n"
     wanted = has("<summary>102 rules</summary>", "<tbody>\n" + first, last)
     yield report("the page: 102 rules", log_of(many), {"html": wanted}, status=1)
 
