@@ -80,16 +80,22 @@ STYLED = "getComputedStyle(document.querySelector('h1')).borderLeftStyle !== 'no
 INPUTS = """[...document.querySelectorAll('input, nav')].filter(
   it => it.getClientRects().length > 0).length"""
 
-# Two parts of one row whose contents overlap, as far as they are seen: long parts scroll.
+# Two parts of one row whose contents overlap, as far as they are seen: long parts scroll, and the path of a row is for
+# screen readers alone.
 OVERLAPS = """(() => {
   const found = [];
   const spans = cell => {
-    const range = document.createRange();
-    range.selectNodeContents(cell);
-    const box = cell.getBoundingClientRect();
-    return [...range.getClientRects()].filter(
-      it => it.width > 1 && it.height > 1 && it.top < box.bottom && it.bottom > box.top).map(it => ({
-      left: it.left, right: it.right, top: Math.max(it.top, box.top), bottom: Math.min(it.bottom, box.bottom)}));
+    const whole = {left: -Infinity, right: Infinity, top: -Infinity, bottom: Infinity};
+    const box = getComputedStyle(cell).overflowX === 'visible' ? whole : cell.getBoundingClientRect();
+    const walker = document.createTreeWalker(cell, NodeFilter.SHOW_TEXT), range = document.createRange(), seen = [];
+    for (let text; (text = walker.nextNode());) {
+      if (text.parentElement.closest('li i')) continue;
+      range.selectNodeContents(text);
+      seen.push(...range.getClientRects());
+    }
+    return seen.map(it => ({
+      left: Math.max(it.left, box.left), right: Math.min(it.right, box.right),
+      top: Math.max(it.top, box.top), bottom: Math.min(it.bottom, box.bottom)}));
   };
   const rows = [...document.querySelectorAll('tr, li')].filter(it => it.checkVisibility());
   for (const row of rows.slice(0, 60)) {
