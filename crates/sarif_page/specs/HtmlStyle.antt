@@ -57,7 +57,7 @@ style_groups =
     codes ".rules summary{color:var(--dim)}\n" ++ (
     codes ".rules table{margin:.25rem 0 .75rem;font-size:.9375rem}\n" ++ (
     codes
-    ".rules th,.rules td{padding:.25rem 1.5rem .25rem 0;text-align:left;vertical-align:baseline;overflow-wrap:anywhere}\n" ++ (
+    ".rules th,.rules td{max-width:min(20vw,18rem);padding:.25rem 1.5rem .25rem 0;text-align:left;vertical-align:baseline;overflow-wrap:break-word}\n" ++ (
     codes ".rules td:first-child,.rules th:first-child{text-align:right}\n" ++ (
     codes "details[data-has]>summary{border-top:1px solid var(--line)}\n" ++ (
     codes "[open][id]>summary{position:sticky;top:0;background:var(--page)}\n" ++ (
@@ -196,7 +196,7 @@ style_narrow =
     codes "summary{padding:.375rem 0}\n" ++ (
     codes "h3{font-size:.8125rem;max-height:2.125rem}\n" ++ (
     codes ".rules{overflow-x:auto}\n" ++ (
-    codes ".rules th,.rules td{padding-right:.75rem}\n" ++ (
+    codes ".rules th,.rules td{max-width:10rem;padding-right:.75rem}\n" ++ (
     codes
     "li{grid-template-columns:auto auto minmax(0,1fr);grid-template-rows:none;gap:.125rem .75rem;padding-left:0;align-items:baseline}\n" ++ (
     codes "li>*{grid-row:auto}\n" ++ (

@@ -60,7 +60,7 @@ summary{cursor:pointer;padding:.3125rem 0}
 .rules{margin-bottom:.25rem}
 .rules summary{color:var(--dim)}
 .rules table{margin:.25rem 0 .75rem;font-size:.9375rem}
-.rules th,.rules td{padding:.25rem 1.5rem .25rem 0;text-align:left;vertical-align:baseline;overflow-wrap:anywhere}
+.rules th,.rules td{max-width:min(20vw,18rem);padding:.25rem 1.5rem .25rem 0;text-align:left;vertical-align:baseline;overflow-wrap:break-word}
 .rules td:first-child,.rules th:first-child{text-align:right}
 details[data-has]>summary{border-top:1px solid var(--line)}
 [open][id]>summary{position:sticky;top:0;background:var(--page)}
@@ -175,7 +175,7 @@ h2{padding:0;font-size:1.25rem}
 summary{padding:.375rem 0}
 h3{font-size:.8125rem;max-height:2.125rem}
 .rules{overflow-x:auto}
-.rules th,.rules td{padding-right:.75rem}
+.rules th,.rules td{max-width:10rem;padding-right:.75rem}
 li{grid-template-columns:auto auto minmax(0,1fr);grid-template-rows:none;gap:.125rem .75rem;padding-left:0;align-items:baseline}
 li>*{grid-row:auto}
 li>p,li>pre,li>div{grid-area:auto/1/auto/-1}
