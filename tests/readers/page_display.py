@@ -80,22 +80,21 @@ STYLED = "getComputedStyle(document.querySelector('h1')).borderLeftStyle !== 'no
 INPUTS = """[...document.querySelectorAll('input, nav')].filter(
   it => it.getClientRects().length > 0).length"""
 
-# Two parts of one row whose contents overlap, as far as they are seen: long parts scroll, and the path of a row is for
-# screen readers alone.
+# Two parts of one row whose contents overlap, as far as they are seen: long parts and code scroll, and paths are hidden.
 OVERLAPS = """(() => {
   const found = [];
   const spans = cell => {
-    const whole = {left: -Infinity, right: Infinity, top: -Infinity, bottom: Infinity};
-    const box = getComputedStyle(cell).overflowX === 'visible' ? whole : cell.getBoundingClientRect();
-    const walker = document.createTreeWalker(cell, NodeFilter.SHOW_TEXT), range = document.createRange(), seen = [];
-    for (let text; (text = walker.nextNode());) {
-      if (text.parentElement.closest('li i')) continue;
-      range.selectNodeContents(text);
-      seen.push(...range.getClientRects());
+    const box = cell.getBoundingClientRect();
+    const walker = document.createTreeWalker(cell, NodeFilter.SHOW_TEXT);
+    const found = [];
+    while (walker.nextNode()) {
+      const range = document.createRange();
+      range.selectNodeContents(walker.currentNode);
+      if (!walker.currentNode.parentElement.closest('li i')) found.push(...range.getClientRects());
     }
-    return seen.map(it => ({
-      left: Math.max(it.left, box.left), right: Math.min(it.right, box.right),
-      top: Math.max(it.top, box.top), bottom: Math.min(it.bottom, box.bottom)}));
+    return found.filter(
+      it => it.width > 1 && it.height > 1 && it.top < box.bottom && it.bottom > box.top).map(it => ({
+      left: it.left, right: cell.localName === 'pre' ? Math.min(it.right, box.right) : it.right, top: Math.max(it.top, box.top), bottom: Math.min(it.bottom, box.bottom)}));
   };
   const rows = [...document.querySelectorAll('tr, li')].filter(it => it.checkVisibility());
   for (const row of rows.slice(0, 60)) {
