@@ -1,4 +1,5 @@
 pub mod HtmlBreaks
+pub mod HtmlCode
 pub mod HtmlFixed
 pub mod HtmlGroups
 pub mod HtmlIndex
