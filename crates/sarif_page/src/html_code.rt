@@ -1,9 +1,11 @@
 //! The code of a row.
-ghost use Rattle.std.specs.Prelude.{◌≡◌, ◌++◌, OnOk, string_bytes};
+ghost use Rattle.std.specs.Prelude.{◌≡◌, ◌++◌, flat_map, OnOk, string_bytes};
+ghost use Rattle.std.specs.List.{enumerate_from};
 ghost use Rattle.sarif_page.specs.HtmlCode as said;
 
 use crate::breaks::push_escaped;
 use sarif_findings::{Code, Finding};
+use sarif_model::Text;
 use std::alloc::{AllocError, Global};
 
 /// Adds a character of code.
@@ -69,12 +71,17 @@ fn push_code_line(
     Ok(())
 }
 
-/// Adds the lines of the code.
-fn push_code_lines(alloc: Global, text: &mut String, code: &Code) -> Result<(), AllocError>
-    ensures { OnOk result
-        (string_bytes text.new ≡ string_bytes text.old ++ said.code_lines code.now) }
+/// Adds these lines of the code.
+fn push_code_lines(
+    alloc: Global,
+    text: &mut String,
+    code: &Code,
+    lines: &[Text],
+) -> Result<(), AllocError>
+    ensures { OnOk result (string_bytes text.new ≡ string_bytes text.old
+        ++ flat_map (said.code_line code.now) (enumerate_from 0 lines.now)) }
 {
-    for (index, line) in code.lines.as_slice().iter().enumerate() {
+    for (index, line) in lines.iter().enumerate() {
         push_code_line(alloc, text, code, index, line.as_str())?;
     }
     Ok(())
@@ -87,7 +94,7 @@ fn push_code_html(alloc: Global, text: &mut String, code: &Code) -> Result<(), A
         (string_bytes text.new ≡ string_bytes text.old ++ said.code_html code.now) }
 {
     text.push_str("<pre><code>")?;
-    push_code_lines(alloc, text, code)?;
+    push_code_lines(alloc, text, code, code.lines.as_slice())?;
     text.push_str("</code></pre>")?;
     Ok(())
 }
