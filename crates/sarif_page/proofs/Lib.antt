@@ -1,3 +1,4 @@
+pub mod AttributesRead
 pub mod BreaksApart
 pub mod BrokenMore
 pub mod CodeApart

@@ -26,7 +26,7 @@ use Rattle.sarif_page.proofs.CodeApart.{code_apart}
 use Rattle.sarif_shown.proofs.EscapedApart.{page_apart, page_chars}
 
 -- the string has this many tags and quotes
-record Marks (tags quotes : ℕ) (text : List ℕ) : Type 0 where
+pub record Marks (tags quotes : ℕ) (text : List ℕ) : Type 0 where
   tagged : tags_in text ≡ tags
   quoted : quotes_in text ≡ quotes
 
@@ -56,7 +56,7 @@ none_in (b ∷ bs) h =
       quoted = omega (arith, no_quote, sum_by-cons (λ c. cond (c == 34) 1 0) b bs, rest.quoted);
     }
 
-escaped_none : (text : List ℕ) → Marks 0 0 (escaped Page text)
+pub escaped_none : (text : List ℕ) → Marks 0 0 (escaped Page text)
 escaped_none text = none_in (escaped Page text) (page_apart text)
 
 -- escaped code
@@ -78,19 +78,19 @@ none_in_code after_and (b ∷ bs) h =
       quoted = omega (arith, no_quote, sum_by-cons (λ c. cond (c == 34) 1 0) b bs, rest.quoted);
     }
 
-level_none : (l : Level) → Marks 0 0 (level_name l)
+pub level_none : (l : Level) → Marks 0 0 (level_name l)
 level_none NoLevel = record { tagged = refl; quoted = refl }
 level_none Note = record { tagged = refl; quoted = refl }
 level_none Warning = record { tagged = refl; quoted = refl }
 level_none Error = record { tagged = refl; quoted = refl }
 
-state_none : (s : State) → Marks 0 0 (state_name s)
+pub state_none : (s : State) → Marks 0 0 (state_name s)
 state_none New = record { tagged = refl; quoted = refl }
 state_none Unchanged = record { tagged = refl; quoted = refl }
 state_none Updated = record { tagged = refl; quoted = refl }
 state_none Absent = record { tagged = refl; quoted = refl }
 
-hit_none : (hit : Bool) → Marks 0 0 (hit_word hit)
+pub hit_none : (hit : Bool) → Marks 0 0 (hit_word hit)
 hit_none true = record { tagged = refl; quoted = refl }
 hit_none false = record { tagged = refl; quoted = refl }
 
@@ -150,7 +150,7 @@ in_link address name marks =
 
 -- ---- the place
 
-spot_marks : (path : List ℕ) (line column : Option ℕ) → Marks 4 (path_quotes (Some path) line) (spot_in path line column)
+pub spot_marks : (path : List ℕ) (line column : Option ℕ) → Marks 4 (path_quotes (Some path) line) (spot_in path line column)
 spot_marks path None column =
     then_marks (fixed (codes "<code class=\"all\"><i>") 2 2 refl refl)
     (then_marks (escaped_none (place_path path ++ numbered column)) (fixed (codes "</i></code>") 2 0 refl refl))
@@ -176,7 +176,7 @@ cell_marks link f = linked_marks (place_link link f) f
 
 -- ---- the rule
 
-plain_marks : (rule : List ℕ) → Marks (2 + breaks_in rule) 0 (rule_code rule)
+pub plain_marks : (rule : List ℕ) → Marks (2 + breaks_in rule) 0 (rule_code rule)
 plain_marks rule =
     let whole =
     then_marks (fixed (codes "<code>") 1 0 refl refl) (then_marks (broken_marks rule) (fixed (codes "</code>") 1 0 refl refl)) in
@@ -239,7 +239,7 @@ code_marks (Some code) = html_marks code
 
 -- ---- the row
 
-message_marks : (f : Finding) → Marks (5 + code_tags f.code) 0 (message_cells f)
+pub message_marks : (f : Finding) → Marks (5 + code_tags f.code) 0 (message_cells f)
 unfolding message_cells
 message_marks f =
     let whole =
@@ -248,7 +248,7 @@ message_marks f =
     (then_marks (code_marks f.code) (fixed (codes " <div>") 1 0 refl refl)))))) in
     record { tagged = whole.tagged ∙ omega arith; quoted = whole.quoted }
 
-tool_marks : (f : Finding) → Marks 6 0 (tool_cells f)
+pub tool_marks : (f : Finding) → Marks 6 0 (tool_cells f)
 unfolding tool_cells
 tool_marks f =
     then_marks (fixed (codes "<span><b>") 2 0 refl refl) (then_marks (state_none f.state) (then_marks (fixed (codes "</b> ") 1 0 refl refl)

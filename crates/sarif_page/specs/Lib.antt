@@ -1,3 +1,4 @@
+pub mod HtmlAttributes
 pub mod HtmlBreaks
 pub mod HtmlCode
 pub mod HtmlFixed

@@ -2,12 +2,13 @@
 //! cover any strings.
 ghost use Rattle.std.specs.Prelude.{◌≡◌, ◌≤◌, ℕ, List, Option, Bool, false, true};
 ghost use Rattle.std.specs.Prelude.{not, ◌&&◌, []};
-ghost use Rattle.std.specs.Prelude.{length};
+ghost use Rattle.std.specs.Prelude.{flat_map, length};
 ghost use Rattle.std.specs.List.{count_by, list_all, sum_by};
 ghost use Rattle.sarif_findings.specs.declared.finding.Finding.{Finding};
 ghost use Rattle.sarif_shown.specs.declared.escaping.Escaping.TheVariants.{Page};
 ghost use Rattle.sarif_shown.specs.Escaped.{escaped};
 ghost use Rattle.sarif_shown.specs.EscapedLaws.{is_element_text};
+ghost use Rattle.sarif_page.specs.HtmlAttributes.{attributes_in, row_attributes};
 ghost use Rattle.sarif_page.specs.HtmlBreaks.{broken};
 ghost use Rattle.sarif_page.specs.HtmlCode.{code_text};
 ghost use Rattle.sarif_page.specs.HtmlRow.{rows_html};
@@ -59,4 +60,12 @@ pub fn page_rows_have_their_tags()
         tags_in (rows_html link findings) ≡ sum_by (row_tags link) findings }
     ensures quotes { (link : Option (List ℕ)) (findings : List Finding) →
         quotes_in (rows_html link findings) ≡ sum_by (row_quotes link) findings }
+{}
+
+/// A reader of the rows of a page finds only these attributes: the level, the state and the hit of each row, the class of
+/// a place without a line, and those of links to a place or to the page of a rule. So no `id` is in a row, and each
+/// `href` of it is the address of a place by the template, or that of a rule.
+pub fn page_rows_have_their_attributes()
+    ensures { (link : Option (List ℕ)) (findings : List Finding) →
+        attributes_in (rows_html link findings) ≡ flat_map (row_attributes link) findings }
 {}
