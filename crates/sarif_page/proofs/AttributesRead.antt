@@ -1,4 +1,4 @@
--- A reader of a page's rows finds the attributes that their results tell.
+-- A reader of a page finds in its rows the attributes that are stated for their results.
 use Rattle.std.proofs.Common.{◌≡◌, ◌+◌, ◌==◌, ◌++◌, ℕ, Bool, true, false, cond, List, [], ◌∷◌, Option, Some, None, codes, decimal, flat_map, append-nil, append_assoc, if◌then◌else◌, refl, sym, ap, subst, ◌∙◌, arith}
 use Rattle.std.specs.List.{count_by}
 use Rattle.std.proofs.lemmas.List.Sums.{sum_by-cons}
@@ -30,7 +30,7 @@ step : (text word : List ℕ) (value : Option (List ℕ)) (found : List Attribut
     → Moves text word value found word' value' → Moves text word value found word' value'
 step text word value found word' value' moves = moves
 
--- reading a string outside of an attribute adds these, whatever is before it
+-- reading a string outside of an attribute adds these, after any word
 Reads : List ℕ → List Attribute → Type 0
 Reads text found = (word : List ℕ) → (word' : List ℕ) × Moves text word None found word' None
 

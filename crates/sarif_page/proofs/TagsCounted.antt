@@ -217,7 +217,8 @@ newline_none false = record { tagged = refl; quoted = refl }
 line_marks : (code : Code) (line : ℕ × List ℕ) → Marks (mark_tags code line) 0 (code_line code line)
 unfolding code_line
 line_marks code line =
-    then_marks (newline_none (line.0 == 0)) (marked_marks (has_mark code line.0) (row_of code line.0 line.1))
+    let whole = then_marks (newline_none (line.0 == 0)) (marked_marks (has_mark code line.0) (row_of code line.0 line.1)) in
+    record { tagged = whole.tagged ∙ omega arith; quoted = whole.quoted }
 
 lines_marks : (code : Code) (lines : List (ℕ × List ℕ)) → Marks (sum_by (mark_tags code) lines) 0 (flat_map (code_line code) lines)
 lines_marks code [] = record { tagged = refl; quoted = refl }

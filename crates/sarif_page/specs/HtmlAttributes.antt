@@ -1,4 +1,4 @@
--- The attributes of rows, as a reader of the page finds them, and as the results of the rows tell them.
+-- The attributes of rows: those that a reader of the page finds, and those that are stated for their results.
 use Rattle.std.specs.Prelude.{ℕ, ◌||◌, ◌==◌, List, [], ◌∷◌, ◌++◌, Option, Some, None, codes, if◌then◌else◌}
 use Rattle.sarif_model.specs.Level.{level_name}
 use Rattle.sarif_model.specs.State.{state_name}
