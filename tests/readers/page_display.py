@@ -80,16 +80,21 @@ STYLED = "getComputedStyle(document.querySelector('h1')).borderLeftStyle !== 'no
 INPUTS = """[...document.querySelectorAll('input, nav')].filter(
   it => it.getClientRects().length > 0).length"""
 
-# Two parts of one row whose contents overlap, as far as they are seen: long parts scroll.
+# Two parts of one row whose contents overlap, as far as they are seen: long parts and code scroll, and paths are hidden.
 OVERLAPS = """(() => {
   const found = [];
   const spans = cell => {
-    const range = document.createRange();
-    range.selectNodeContents(cell);
     const box = cell.getBoundingClientRect();
-    return [...range.getClientRects()].filter(
+    const walker = document.createTreeWalker(cell, NodeFilter.SHOW_TEXT);
+    const found = [];
+    while (walker.nextNode()) {
+      const range = document.createRange();
+      range.selectNodeContents(walker.currentNode);
+      if (!walker.currentNode.parentElement.closest('li i')) found.push(...range.getClientRects());
+    }
+    return found.filter(
       it => it.width > 1 && it.height > 1 && it.top < box.bottom && it.bottom > box.top).map(it => ({
-      left: it.left, right: it.right, top: Math.max(it.top, box.top), bottom: Math.min(it.bottom, box.bottom)}));
+      left: it.left, right: cell.localName === 'pre' ? Math.min(it.right, box.right) : it.right, top: Math.max(it.top, box.top), bottom: Math.min(it.bottom, box.bottom)}));
   };
   const rows = [...document.querySelectorAll('tr, li')].filter(it => it.checkVisibility());
   for (const row of rows.slice(0, 60)) {
