@@ -786,10 +786,11 @@ def grouped():
     yield report("the page: more than 100 groups", given, {"html": wanted}, status=1)
 
 
-def index_row(number, rule, tool, first, path):
+def index_row(number, rule, tool, first, path, name=""):
     """A row of the index of rules."""
     link = f'<a href="#f{first}"><code>{path}</code></a>'
-    return f'<tr><td>{number}</td><th scope="row"><code>{rule}</code></th><td>{tool}</td><td>{link}</td></tr>\n'
+    cells = f'<td>{number}</td><th scope="row"><code>{rule}</code></th><td>{name}</td><td>{tool}</td><td>{link}</td>'
+    return f"<tr>{cells}</tr>\n"
 
 
 def indexed():
@@ -811,11 +812,16 @@ def indexed():
     yield report("the page: the index of rules", log_of(given), {"html": wanted}, status=1)
     wanted = has("<summary>1 rule</summary>", index_row(1, "R3", "U", 1, "No path"))
     yield report("the page: the index of the others", log_of(given[-1:]), {"html": wanted})
+    rule = {"id": "R4", "helpUri": "https://e.org", "name": "R4", "shortDescription": {"text": "No <b>"}}
+    named = log({"tool": {"driver": {"name": "T", "rules": [rule]}}, "results": [note(ruleIndex=0)]})
+    *_, cells = index_row(1, "R4", "T", 1, "No path", "No &lt;b&gt;").partition("<code>")
+    wanted = has('<tr><td>1</td><th scope="row"><a href="https://e.org"', cells.replace("</code>", "</code></a>", 1))
+    yield report("the page: the name and the address of a rule in the index", named, {"html": wanted})
     wanted = has(without=['class="rules"'])
     yield report("the page: no index without rules", log_of([bare("T", "")]), {"html": wanted})
     many = [bare("T", f"R{it}", "m", True) for it in (*range(102), 101)]
-    first = index_row(2, "R101", "T", 1, "No path") + index_row(1, "R0", "T", 1, "No path")
-    last = index_row(1, "R98", "T", 1, "No path") + "</tbody>\n</table>\n<p>2 more rules</p>\n</details>\n"
+    first = index_row(2, "R101", "T", 3, "No path") + index_row(1, "R0", "T", 1, "No path")
+    last = index_row(1, "R98", "T", 2, "No path") + "</tbody>\n</table>\n<p>2 more rules</p>\n</details>\n"
     wanted = has("<summary>102 rules</summary>", "<tbody>\n" + first, last)
     yield report("the page: 102 rules", log_of(many), {"html": wanted}, status=1)
 

@@ -5,7 +5,7 @@ from html.parser import HTMLParser
 
 from reference_page import FALLING, GroupOf, ListOf, PageOf, RowOf
 
-COLUMNS = ["Number", "Rule", "Tool", "First in"]
+COLUMNS = ["Number", "Rule", "Name", "Tool", "First in"]
 GONE = "The filters hide all of these."
 POLICY = "default-src 'none'; style-src 'unsafe-inline'; base-uri 'none'; form-action 'none'"
 VOID = {"meta", "input", "br", "hr", "col", "wbr"}
@@ -234,9 +234,9 @@ class PageReader(HTMLParser):
         wrong += [f"the index has {columns}"] * (columns != COLUMNS)
         rows = []
         for row in table.first("tbody").within:
-            number, rule, tool, place = row.within
+            number, rule, name, tool, place = row.within
             links = [one.first("a") for one in (rule, place)]
-            texts = [one.text for one in (number, rule, tool, place)]
+            texts = [one.text for one in (number, rule, name, tool, place)]
             rows.append((texts, *(link and link.given["href"] for link in links)))
         return [summary.text, rows, [one.text for one in ends]]
 

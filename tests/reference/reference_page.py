@@ -88,7 +88,7 @@ def index_of(results, rows, groups):
     told = []
     for (rule, tool), some in named[:MOST_RULES]:
         link, path = firsts.get((rule, tool), (None, ""))
-        told.append(([str(len(some)), rule, tool, path], some[0].link, link))
+        told.append(([str(len(some)), rule, some[0].name or "", tool, path], some[0].link, link))
     more = len(named) - len(told)
     ends = [counted(more, "more rule", "more rules")] * (more > 0)
     return [counted(len(named), "rule", "rules"), told, ends] if named else []

@@ -8,5 +8,6 @@ pub mod GroupsMore
 pub mod GroupsWhole
 pub mod IndexMore
 pub mod RowsByFile
+pub mod RowsLeft
 pub mod RulesMore
 pub mod TagsCounted

@@ -70,7 +70,7 @@ index_begin =
     codes "<table>\n" ++ (
     codes "<caption>Results of each rule</caption>\n" ++ (
     codes
-    "<thead><tr><th scope=\"col\">Number</th><th scope=\"col\">Rule</th><th scope=\"col\">Tool</th><th scope=\"col\">First in</th></tr></thead>\n" ++ (
+    "<thead><tr><th scope=\"col\">Number</th><th scope=\"col\">Rule</th><th scope=\"col\">Name</th><th scope=\"col\">Tool</th><th scope=\"col\">First in</th></tr></thead>\n" ++ (
     codes "<tbody>\n"))))
 
 -- after its rows

@@ -1,5 +1,5 @@
 -- The index of rules.
-use Rattle.std.specs.Prelude.{ℕ, ◌+◌, ◌-◌, List, [], ◌∷◌, ◌++◌, length, codes, flat_map, if◌then◌else◌, ◌==◌}
+use Rattle.std.specs.Prelude.{ℕ, ◌+◌, ◌-◌, List, [], ◌∷◌, ◌++◌, Option, Some, None, length, codes, flat_map, if◌then◌else◌, ◌==◌}
 use Rattle.std.specs.List.{list_any}
 use Rattle.std.specs.Fmt.{decimal}
 use Rattle.sarif_findings.specs.declared.finding.Finding.{Finding}
@@ -28,10 +28,19 @@ index_front r =
     codes "<tr><td>" ++ (decimal r.number
     ++ (codes "</td><th scope=\"row\">" ++ (linked r.first.rule r.first.help r.first.rule_name ++ codes "</th><td>")))
 
+-- the name of a rule, if it has one
+abbrev pub name_text : Option (List ℕ) → List ℕ
+name_text None = []
+name_text (Some name) = escaped Page name
+
+-- the name and the tool of a result's rule
+unfoldable pub index_middle : Finding → List ℕ
+index_middle f =
+    name_text f.rule_name ++ (codes "</td><td>" ++ (escaped Page f.tool ++ codes "</td><td>"))
+
 unfoldable pub index_row : ℕ → List Group → Rule → List ℕ
 index_row number groups r =
-    index_front r ++ (escaped Page r.first.tool
-    ++ (codes "</td><td>" ++ (first_link r.first number groups ++ codes "</td></tr>\n")))
+    index_front r ++ (index_middle r.first ++ (first_link r.first number groups ++ codes "</td></tr>\n"))
 
 abbrev pub index_rows : ℕ → List Group → List Rule → List ℕ
 index_rows number groups [] = []

@@ -1,5 +1,5 @@
 -- The page: the verdict, the counts, and the first reported results.
-use Rattle.std.specs.Prelude.{ℕ, ◌+◌, ◌-◌, Bool, true, false, ◌&&◌, ◌||◌, ◌==◌, List, [], ◌∷◌, ◌++◌, length, codes, flat_map, map, nat_lt, if◌then◌else◌}
+use Rattle.std.specs.Prelude.{ℕ, ◌+◌, Bool, true, false, ◌&&◌, ◌||◌, ◌==◌, List, [], ◌∷◌, ◌++◌, length, codes, flat_map, map, nat_lt, if◌then◌else◌}
 use Rattle.std.specs.List.{list_any}
 use Rattle.std.specs.Fmt.{decimal}
 use Rattle.sarif_model.specs.declared.kinds.Level.{Level}
@@ -20,7 +20,7 @@ use Rattle.sarif_findings.specs.declared.finding.Finding.{Finding}
 use Rattle.sarif_shown.specs.Facts.{Facts}
 use Rattle.sarif_page.specs.HtmlFixed.{page_begin, title_end, body_begin, counts_begin, counts_end, filters_begin, filters_end, header_end, nothing_reported, page_end}
 use Rattle.sarif_page.specs.HtmlGroups.{Part, most_open, section_if}
-use Rattle.sarif_page.specs.HtmlRows.{Tables, groups_of, tables_of}
+use Rattle.sarif_page.specs.HtmlRows.{Tables, groups_of, tables_of, without_row}
 use Rattle.sarif_page.specs.HtmlStyle.{style}
 use Rattle.sarif_page.specs.HtmlWords.{reason, hits_heading, others_text}
 use Rattle.sarif_shown.specs.Sentences.{accept_text, entries_text, gate_end, gate_text, hits_text, more_text, runs_text, unshown_text}
@@ -153,9 +153,8 @@ nothing_line unshown = if unshown == 0 then nothing_reported else []
 unfoldable pub rest_line : ℕ → Tables → List ℕ
 rest_line unshown tables =
     if tables.all_hits == 0 && tables.all_others == 0 then nothing_line unshown
-    else more_line
-    ((tables.all_hits - length tables.hits) + (tables.all_others - length tables.others))
-    (tables.all_hits - length tables.hits)
+    else more_line (without_row tables.all_hits tables.hits + without_row tables.all_others tables.others)
+    (without_row tables.all_hits tables.hits)
 
 -- the room for open groups in the others: there is some if they are the first list
 abbrev pub others_room : List Finding → ℕ

@@ -66,6 +66,10 @@ tables_of link findings = record {
   link = link;
 }
 
+-- how many of this number of results have no row, if these have one
+abbrev pub without_row : ℕ → List Finding → ℕ
+without_row all rows = all - length rows
+
 -- ---- the groups
 
 -- the most rows of a group

@@ -119,7 +119,7 @@ pub(crate) fn index_begin() -> &'static str
 </summary>
 <table>
 <caption>Results of each rule</caption>
-<thead><tr><th scope=\"col\">Number</th><th scope=\"col\">Rule</th><th scope=\"col\">Tool</th><th scope=\"col\">First in</th></tr></thead>
+<thead><tr><th scope=\"col\">Number</th><th scope=\"col\">Rule</th><th scope=\"col\">Name</th><th scope=\"col\">Tool</th><th scope=\"col\">First in</th></tr></thead>
 <tbody>
 "
 }

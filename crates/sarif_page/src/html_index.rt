@@ -53,7 +53,7 @@ fn push_group_link(
     Ok(())
 }
 
-/// Adds a link to the first of these groups with a row of this result's rule and tool, if there is one.
+/// Adds a link to the first of these groups with a row of this result's rule and tool, if there is such a group.
 fn push_first_link(
     alloc: Global,
     text: &mut String,
@@ -92,6 +92,30 @@ fn push_index_front(alloc: Global, text: &mut String, rule: &Rule<'_>) -> Result
     Ok(())
 }
 
+/// Adds the name of a rule, if it has one.
+fn push_name(alloc: Global, text: &mut String, finding: &Finding) -> Result<(), AllocError>
+    ensures { OnOk result (string_bytes text.new
+        ≡ string_bytes text.old ++ said.name_text finding.now.rule_name) }
+{
+    if let Some(name) = &finding.rule_name {
+        Escaping::Page.push_str(alloc, text, name.as_str())?;
+    }
+    Ok(())
+}
+
+/// Adds the name and the tool of a rule.
+#[tactic(auto, unfolding(crate::specs::HtmlIndex::index_middle))]
+fn push_index_middle(alloc: Global, text: &mut String, finding: &Finding) -> Result<(), AllocError>
+    ensures { OnOk result
+        (string_bytes text.new ≡ string_bytes text.old ++ said.index_middle finding.now) }
+{
+    push_name(alloc, text, finding)?;
+    text.push_str("</td><td>")?;
+    Escaping::Page.push_str(alloc, text, finding.tool.as_str())?;
+    text.push_str("</td><td>")?;
+    Ok(())
+}
+
 /// Adds the row of a rule.
 #[tactic(auto, unfolding(crate::specs::HtmlIndex::index_row))]
 fn push_index_row(
@@ -106,8 +130,7 @@ fn push_index_row(
         ++ said.index_row number (groups_in groups.now) (rule_in rule.now)) }
 {
     push_index_front(alloc, text, rule)?;
-    Escaping::Page.push_str(alloc, text, rule.first.tool.as_str())?;
-    text.push_str("</td><td>")?;
+    push_index_middle(alloc, text, rule.first)?;
     push_first_link(alloc, text, rule.first, number, groups)?;
     text.push_str("</td></tr>\n")?;
     Ok(())
@@ -170,7 +193,8 @@ fn push_rules(
 ) -> Result<(), AllocError>
     requires { number + length groups.now < 2 ^ 64 }
     ensures { OnOk result (string_bytes text.new ≡ string_bytes text.old
-        ++ said.index_of number (groups_in groups.now) (rules_in index.now.shown.items) index.now.all) }
+        ++ said.index_of number (groups_in groups.now)
+        (rules_in index.now.shown.items) index.now.all) }
 {
     let rules = count_text(alloc, index.all, " rule", " rules")?;
     text.push_str("<details class=\"rules\"><summary>")?;
@@ -193,7 +217,8 @@ pub(crate) fn push_index(
 ) -> Result<(), AllocError>
     requires { number + length groups.now < 2 ^ 64 }
     ensures { OnOk result (string_bytes text.new ≡ string_bytes text.old
-        ++ said.index_html number (groups_in groups.now) (rules_in index.now.shown.items) index.now.all) }
+        ++ said.index_html number (groups_in groups.now)
+        (rules_in index.now.shown.items) index.now.all) }
 {
     if index.shown.is_empty() {
         return Ok(());

@@ -204,7 +204,8 @@ fn push_rest(
 
 /// The rules of the others: there is an index only if they are the first list.
 fn others_index<'a, 'f>(rows: &'a Rows<'f>, none: &'a Index<'f>) -> &'a Index<'f>
-    ensures { result.now ≡ (if length (tables_in rows.now).hits == 0 then rows.now.index else none.now) }
+    ensures { result.now
+        ≡ (if length (tables_in rows.now).hits == 0 then rows.now.index else none.now) }
 {
     if rows.hits.is_empty() {
         &rows.index

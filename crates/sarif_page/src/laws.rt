@@ -2,12 +2,13 @@
 //! cover any strings.
 ghost use Rattle.std.specs.Prelude.{◌≡◌, ◌≤◌, ℕ, List, Option, Bool, false, true};
 ghost use Rattle.std.specs.Prelude.{not, ◌&&◌, []};
-ghost use Rattle.std.specs.Prelude.{flat_map, length};
+ghost use Rattle.std.specs.Prelude.{◌+◌, flat_map, length};
 ghost use Rattle.std.specs.List.{count_by, list_all, sum_by};
 ghost use Rattle.sarif_findings.specs.declared.finding.Finding.{Finding};
 ghost use Rattle.sarif_shown.specs.declared.escaping.Escaping.TheVariants.{Page};
 ghost use Rattle.sarif_shown.specs.Escaped.{escaped};
 ghost use Rattle.sarif_shown.specs.EscapedLaws.{is_element_text};
+ghost use Rattle.sarif_shown.specs.Listed.{hits_among, others_among};
 ghost use Rattle.sarif_page.specs.HtmlAttributes.{attributes_in, row_attributes};
 ghost use Rattle.sarif_page.specs.HtmlBreaks.{broken};
 ghost use Rattle.sarif_page.specs.HtmlCode.{code_text};
@@ -43,6 +44,18 @@ pub fn page_rows_are_by_file()
     ensures once { (findings : List Finding) (test : Finding → Bool) →
         length findings ≤ page.most_rows
         → count_by test (page.page_rows findings) ≡ count_by test findings }
+{}
+
+/// Each result has a row of a page or is counted in the line on those that have none, and so is each hit.
+pub fn page_rows_count_all_results()
+    ensures hits { (findings : List Finding) →
+        length (page.hit_rows findings)
+        + page.without_row (length (hits_among findings)) (page.hit_rows findings)
+        ≡ count_by (λ f. f.hit) findings }
+    ensures others { (findings : List Finding) →
+        length (page.other_rows findings)
+        + page.without_row (length (others_among findings)) (page.other_rows findings)
+        ≡ count_by (λ f. not f.hit) findings }
 {}
 
 /// The groups of a list have its rows, file by file, and each of them once.

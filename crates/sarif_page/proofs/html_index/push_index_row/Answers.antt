@@ -6,11 +6,9 @@ pub returns : goal.returns
 unfolding index_row
 returns c =
     rw (
-      c.in_ok-push_str-3.ensures.bytes,
+      c.in_ok-push_str.ensures.bytes,
       c.in_ok-push_first_link.ensures,
-      c.in_ok-push_str-2.ensures.bytes,
-      c.in_ok-push_str.ensures,
+      c.in_ok-push_index_middle.ensures,
       c.in_ok-push_index_front.ensures,
-      c.as_str.ensures,
     )
     (simp (append_assoc, append-nil))
