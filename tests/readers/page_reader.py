@@ -3,7 +3,7 @@
 import re
 from html.parser import HTMLParser
 
-from reference_page import FALLING, GroupOf, ListOf, PageOf
+from reference_page import FALLING, GroupOf, ListOf, PageOf, RowOf
 
 COLUMNS = ["Number", "Rule", "Name", "Tool", "First in"]
 GONE = "The filters hide all of these."
@@ -14,7 +14,7 @@ ELEMENTS |= set("h1 h2 h3 table caption colgroup thead tbody tfoot tr th td code
 ELEMENTS |= set("fieldset legend label nav b i details summary ul li pre mark".split())
 LOADING = ("src", "srcset", "data", "action", "formaction", "poster", "ping", "background", "cite")
 ENTITIES = {"amp": "&", "lt": "<", "gt": ">", "quot": '"', "apos": "'"}
-REFERENCES = {"#39": "'", "#x27": "'", "#34": '"', "#x22": '"', "#38": "&", "#60": "<", "#62": ">"}
+REFERENCES = {"#39": "'", "#x27": "'", "#34": '"', "#x22": '"', "#38": "&", "#60": "<", "#62": ">", "#35": "#"}
 # The links of the page to its own parts.
 INNER = re.compile(r"#(hits|others|f[1-9][0-9]*)")
 # Where a path or a rule may be broken.
@@ -91,6 +91,8 @@ class PageReader(HTMLParser):
         is_ours = self.open[-1].name == "style" or NOT_SHOWN.fullmatch(text)
         if not is_ours and any(it in text for it in "&<>\"'"):
             self.wrong.append(f"{text[:60]!r} stands as it is")
+        if "#" in text and any(it.name == "pre" for it in self.open):
+            self.wrong.append(f"{text[:60]!r} has a # as it is")
         self.say(text)
 
     def handle_entityref(self, name):
@@ -162,6 +164,8 @@ class PageReader(HTMLParser):
             inner = link.raw.split('href="', 1)[-1].split('"', 1)[0]
             wrong += [f"the address {inner[:60]!r}"] * any(it in inner for it in "<>'")
             wrong += ["an address that is another"] * (not is_escaped(inner))
+            title = link.raw.split('title="', 1)[-1].split('"', 1)[0] if "title" in link.given else ""
+            wrong += [f"the title {title[:60]!r}"] * (any(it in title for it in "<>'") or not is_escaped(title))
         return wrong
 
     def of_tables(self):
@@ -243,15 +247,16 @@ class PageReader(HTMLParser):
         wrong += [f"a group of {summary.name}, {rows.name}"] * ((summary.name, rows.name) != ("summary", "ul"))
         wrong += [f"the heading {heading.name}"] * (heading.name != "h3")
         found = [self.row(row, wrong) for row in rows.within]
-        pairs = sorted({f"{row[0][1]}-{row[0][4]}" for row in found})
+        pairs = sorted({f"{row.cells[1]}-{row.cells[4]}" for row in found})
         wrong += [f"the group {it.given['id']} has {told_pairs(it)}"] * (pairs != told_pairs(it))
         return GroupOf(it.given["id"], "open" in it.given, heading.text, numbers.text, found)
 
     def row(self, row, wrong):
-        """The texts of a row, whether it is a hit, and the link of its rule or None."""
+        """What a row tells."""
         place, level, message, *code, last = row.within
         names = [it.name for it in (level, message, *code, last)]
         wrong += [f"a row of {names}"] * (names not in (["b", "p", "div"], ["b", "p", "pre", "div"]))
+        wrong += [f"a place of {place.name}"] * (place.name not in ("a", "code"))
         *rule, source = last.within
         state = source.first("b")
         link = last.first("a")
@@ -259,7 +264,20 @@ class PageReader(HTMLParser):
         texts = [place.text, level.text, message.text, "".join(it.text for it in rule), state.text, tool]
         given = [row.given.get(f"data-{name}") for name in ("level", "state")]
         wrong += [f"the data {given} beside {texts}"] * (given != [texts[1], texts[4]])
-        return texts, row.given.get("data-hit"), link and link.given["href"]
+        rule = link.given if link else {}
+        links = place.given.get("href"), rule.get("href"), rule.get("title")
+        wrong += [f"the attributes of {links}"] * (set(place.given) - {"href", "rel", "class"} != set())
+        return RowOf(texts, row.given.get("data-hit"), *links, *self.code(code, wrong))
+
+    def code(self, found, wrong):
+        """The lines of the code of a row, and those that are marked."""
+        lines, marked = [], []
+        for it in found:
+            inner = it.first("code")
+            is_code = [one.name for one in it.within] == ["code"] and it.text == inner.text
+            wrong += ["code with other elements"] * (not is_code or any(one.name != "mark" for one in walked(inner)))
+            lines, marked = inner.text.split("\n"), [one.text for one in inner.within]
+        return lines, marked
 
     def counts(self):
         """The numbers of the first table by state, and the states and levels whose numbers are marked."""

@@ -212,7 +212,23 @@ class PageOf:
         return [more_text(number, hits)] * (number > 0) + unshown + accept
 
 
+@dataclass
+class RowOf:
+    """A row of the page: its cells, whether it is a hit, the links of its place and its rule, the title of the second,
+    and its code with the rows of it that are marked."""
+
+    cells: list
+    is_hit: str
+    address: str
+    link: str
+    title: str
+    code: list
+    marked: list
+
+
 def row_of(it):
-    """The cells of a row, whether it is a hit, and the link of its rule or None."""
     cells = [it.place(), it.level, it.message, it.rule, it.state, it.tool]
-    return cells, "yes" if it.is_hit else "no", it.link
+    code = [row for row, _ in it.code_rows]
+    marked = [row for row, is_marked in it.code_rows if is_marked]
+    title = it.name if it.link else None
+    return RowOf(cells, "yes" if it.is_hit else "no", it.address, it.link, title, code, marked)

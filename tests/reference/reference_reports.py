@@ -269,19 +269,19 @@ class Found:
         return [it.removesuffix("\r") for it in lines]
 
     def code(self, line):
-        """Some lines of the code, and the index of the hit line among them or None."""
+        """Some lines of the code, the index of the hit line among them or None, and the number of the first or None."""
         own, around = self.snippet("region"), self.snippet("contextRegion")
         begin = a_number(at(self.physical(), "contextRegion", "startLine"), 1, LARGEST)
         hit = None if begin is None or line is None else line - begin
         if hit is not None and 0 <= hit < len(around):
-            lines = around
+            lines, number = around, begin
         elif own:
-            lines, hit = own, None if line is None else 0
+            lines, hit, number = own, None if line is None else 0, line
         else:
-            lines, hit = around, None
+            lines, hit, number = around, None, begin
         start = max(0, (hit or 0) - 2)
         lines = [code_line(it) for it in lines[start : start + MOST_CODE_LINES]]
-        return lines, None if hit is None else hit - start
+        return lines, None if hit is None else hit - start, None if number is None else number + start
 
 
 # ---- Reported results
@@ -304,6 +304,7 @@ class Reported:
     name: Optional[str] = None
     address: Optional[str] = None
     code: Optional[str] = None
+    code_rows: tuple = ()
 
     def place(self):
         if self.path is None:
@@ -333,6 +334,7 @@ def reported(found, policy):
         name=None if name is None else shown(name, MOST_NAME_CHARACTERS),
         address=place_address(policy.link, path, line) if policy.link and is_exact else None,
         code=one_line(*found.code(line)),
+        code_rows=code_rows(*found.code(line)),
     )
 
 
@@ -341,13 +343,35 @@ def code_line(line):
     return "".join("    " if it == "\t" else " " if is_hidden(it) else it for it in line)
 
 
-def one_line(lines, hit):
+def indent_of(written):
+    """How many spaces each of these lines begins with."""
+    return min(len(it) - len(it.lstrip(" ")) for it in written)
+
+
+def code_rows(lines, hit, number):
+    """The rows of some code, each with whether it is the hit line's: with numbers only if there are several."""
+    written = [index for index, it in enumerate(lines) if it.strip(" ")]
+    if not written:
+        return ()
+    indent, start = indent_of([lines[it] for it in written]), written[0]
+    lines = [cut(it[indent:], MOST_CODE_CHARACTERS) if it.strip(" ") else "" for it in lines[start : written[-1] + 1]]
+    if len(lines) == 1 or number is None:
+        return tuple((it, False) for it in lines)
+    width = len(str(number + start + len(lines) - 1))
+    rows = []
+    for index, it in enumerate(lines, start):
+        mark = ">" if index == hit else " "
+        rows.append((f"{mark} {number + index:>{width}} |{' ' * bool(it)}{it}", index == hit))
+    return tuple(rows)
+
+
+def one_line(lines, hit, _number):
     """The hit line of some code unless it is blank, otherwise the first that isn't, as long as it is shown; None if there
     is none."""
     written = [it for it in lines if it.strip(" ")]
     if not written:
         return None
-    indent = min(len(it) - len(it.lstrip(" ")) for it in written)
+    indent = indent_of(written)
     line = first([it for it in [lines[hit] if hit is not None else ""] if it.strip(" ")] + written)
     return cut(line[indent:], MOST_CODE_CHARACTERS).lstrip(" ")
 

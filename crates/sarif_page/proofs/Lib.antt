@@ -1,5 +1,8 @@
+pub mod AttributesRead
 pub mod BreaksApart
 pub mod BrokenMore
+pub mod CodeApart
+pub mod CodeMore
 pub mod FilesMore
 pub mod GroupsMore
 pub mod GroupsWhole

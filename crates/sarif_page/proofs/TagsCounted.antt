@@ -1,7 +1,7 @@
 -- The tags and the quotes of a page's rows.
-use Rattle.std.proofs.Common.{◌≡◌, ◌+◌, ◌==◌, ◌++◌, ℕ, Bool, true, false, not, ◌&&◌, ◌||◌, cond, List, [], ◌∷◌, Option, Some, None, codes, chars, append-nil, if◌then◌else◌, refl, sym, ap, ap₂, ◌∙◌, arith}
+use Rattle.std.proofs.Common.{◌≡◌, ◌+◌, ◌==◌, ◌++◌, ℕ, Bool, true, false, not, ◌&&◌, ◌||◌, cond, List, [], ◌∷◌, Option, Some, None, codes, chars, flat_map, append-nil, if◌then◌else◌, refl, sym, ap, ap₂, ◌∙◌, arith}
 use Rattle.std.specs.Fmt.{decimal}
-use Rattle.std.specs.List.{sum_by, count_by}
+use Rattle.std.specs.List.{sum_by, count_by, enumerate_from}
 use Rattle.std.proofs.lemmas.Bool.{and_parts, or_parts, not-true}
 use Rattle.std.proofs.lemmas.List.Sums.{sum_by-append, sum_by-cons}
 use Rattle.sarif_model.specs.declared.kinds.Level.{Level}
@@ -11,17 +11,22 @@ use Rattle.sarif_model.specs.declared.kinds.State.TheVariants.{New, Unchanged, U
 use Rattle.sarif_model.specs.Level.{level_name}
 use Rattle.sarif_model.specs.State.{state_name}
 use Rattle.sarif_shown.specs.declared.escaping.Escaping.TheVariants.{Page}
+use Rattle.sarif_findings.specs.declared.code.Code.{Code}
 use Rattle.sarif_findings.specs.declared.finding.Finding.{Finding}
+use Rattle.sarif_findings.specs.CodeRows.{has_mark, row_of}
+use Rattle.sarif_shown.specs.Linked.{place_link}
 use Rattle.sarif_shown.specs.Escaped.{escaped, page_char}
 use Rattle.sarif_shown.specs.EscapedLaws.{is_element_text, is_markup, begins_entity}
 use Rattle.sarif_findings.specs.Finding.{numbered, place_path}
 use Rattle.sarif_page.specs.HtmlBreaks.{break_if, broken, broken_after, broken_char, breaks_after, breaks_in, ends_part, is_capital, is_small}
-use Rattle.sarif_page.specs.HtmlRow.{hit_word, row_data, row_front, spot_at, whole_file, spot_in, place_of, place_cell, message_cells, linked_to, rule_cell, tool_cells, result_row, rows_html, linked}
-use Rattle.sarif_page.specs.HtmlLaws.{tags_in, quotes_in, rule_tags, rule_quotes, place_tags, place_quotes, row_tags, row_quotes}
+use Rattle.sarif_page.specs.HtmlCode.{code_cell, code_html, code_line, code_text, marked_if}
+use Rattle.sarif_page.specs.HtmlRow.{hit_word, row_data, row_front, spot_in, place_of, linked_place, place_cell, message_cells, title_of, link_begin, rule_code, rule_cell, tool_cells, result_row, rows_html, linked}
+use Rattle.sarif_page.specs.HtmlLaws.{tags_in, quotes_in, link_tags, title_quotes, link_quotes, rule_tags, rule_quotes, path_tags, path_quotes, place_tags, place_quotes, mark_tags, code_tags, row_tags, row_quotes, begins_sign, is_code_text}
+use Rattle.sarif_page.proofs.CodeApart.{code_apart}
 use Rattle.sarif_shown.proofs.EscapedApart.{page_apart, page_chars}
 
 -- the string has this many tags and quotes
-record Marks (tags quotes : ℕ) (text : List ℕ) : Type 0 where
+pub record Marks (tags quotes : ℕ) (text : List ℕ) : Type 0 where
   tagged : tags_in text ≡ tags
   quoted : quotes_in text ≡ quotes
 
@@ -51,22 +56,41 @@ none_in (b ∷ bs) h =
       quoted = omega (arith, no_quote, sum_by-cons (λ c. cond (c == 34) 1 0) b bs, rest.quoted);
     }
 
-escaped_none : (text : List ℕ) → Marks 0 0 (escaped Page text)
+pub escaped_none : (text : List ℕ) → Marks 0 0 (escaped Page text)
 escaped_none text = none_in (escaped Page text) (page_apart text)
 
-level_none : (l : Level) → Marks 0 0 (level_name l)
+-- escaped code
+none_in_code : (after_and : Bool) (text : List ℕ) → is_code_text after_and text ≡ true → Marks 0 0 text
+none_in_code after_and [] h = record { tagged = refl; quoted = refl }
+none_in_code after_and (b ∷ bs) h =
+    let entity = not (b == 38) || (begins_entity (b ∷ bs) || begins_sign (b ∷ bs)) in
+    let sign = not (b == 35) || after_and in
+    let parts = and_parts (not (is_markup b)) (entity && (sign && is_code_text (b == 38) bs)) h in
+    let tests = or_parts (b == 60) (b == 62 || (b == 34 || b == 39)) (not-true (is_markup b) parts.0) in
+    let more = or_parts (b == 62) (b == 34 || b == 39) tests.1 in
+    let last = or_parts (b == 34) (b == 39) more.1 in
+    let no_tag = ap (λ t. cond {A = ℕ} t 1 0) tests.0 in
+    let no_quote = ap (λ t. cond {A = ℕ} t 1 0) last.0 in
+    let later = and_parts entity (sign && is_code_text (b == 38) bs) parts.1 in
+    let rest = none_in_code (b == 38) bs (and_parts sign (is_code_text (b == 38) bs) later.1).1 in
+    record {
+      tagged = omega (arith, no_tag, sum_by-cons (λ c. cond (c == 60) 1 0) b bs, rest.tagged);
+      quoted = omega (arith, no_quote, sum_by-cons (λ c. cond (c == 34) 1 0) b bs, rest.quoted);
+    }
+
+pub level_none : (l : Level) → Marks 0 0 (level_name l)
 level_none NoLevel = record { tagged = refl; quoted = refl }
 level_none Note = record { tagged = refl; quoted = refl }
 level_none Warning = record { tagged = refl; quoted = refl }
 level_none Error = record { tagged = refl; quoted = refl }
 
-state_none : (s : State) → Marks 0 0 (state_name s)
+pub state_none : (s : State) → Marks 0 0 (state_name s)
 state_none New = record { tagged = refl; quoted = refl }
 state_none Unchanged = record { tagged = refl; quoted = refl }
 state_none Updated = record { tagged = refl; quoted = refl }
 state_none Absent = record { tagged = refl; quoted = refl }
 
-hit_none : (hit : Bool) → Marks 0 0 (hit_word hit)
+pub hit_none : (hit : Bool) → Marks 0 0 (hit_word hit)
 hit_none true = record { tagged = refl; quoted = refl }
 hit_none false = record { tagged = refl; quoted = refl }
 
@@ -102,7 +126,31 @@ broken_marks : (text : List ℕ) → Marks (breaks_in text) 0 (broken text)
 unfolding broken
 broken_marks text = chars_marks false (chars text)
 
-spot_marks : (path : List ℕ) (line column : Option ℕ) → Marks 4 (place_quotes (Some path) line) (spot_in path line column)
+-- ---- links
+
+title_marks : (name : Option (List ℕ)) → Marks 0 (title_quotes name) (title_of name)
+title_marks None = record { tagged = refl; quoted = refl }
+title_marks (Some name) =
+    then_marks (fixed (codes " title=\"") 0 1 refl refl) (then_marks (escaped_none name) (fixed (codes "\"") 0 1 refl refl))
+
+begin_marks : (address : List ℕ) (name : Option (List ℕ)) → Marks 1 (4 + title_quotes name) (link_begin address name)
+unfolding link_begin
+begin_marks address name =
+    let whole =
+    then_marks (fixed (codes "<a href=\"") 1 1 refl refl) (then_marks (escaped_none address) (then_marks (fixed (codes "\"") 0 1 refl refl)
+    (then_marks (title_marks name) (fixed (codes " rel=\"noopener noreferrer\">") 0 2 refl refl)))) in
+    record { tagged = whole.tagged ∙ omega arith; quoted = whole.quoted ∙ omega arith }
+
+-- a string in a link
+in_link : {text : List ℕ} {m n : ℕ} (address : List ℕ) (name : Option (List ℕ)) → Marks m n text
+    → Marks (2 + m) ((4 + title_quotes name) + n) (link_begin address name ++ (text ++ codes "</a>"))
+in_link address name marks =
+    let whole = then_marks (begin_marks address name) (then_marks marks (fixed (codes "</a>") 1 0 refl refl)) in
+    record { tagged = whole.tagged ∙ omega arith; quoted = whole.quoted ∙ omega arith }
+
+-- ---- the place
+
+pub spot_marks : (path : List ℕ) (line column : Option ℕ) → Marks 4 (path_quotes (Some path) line) (spot_in path line column)
 spot_marks path None column =
     then_marks (fixed (codes "<code class=\"all\"><i>") 2 2 refl refl)
     (then_marks (escaped_none (place_path path ++ numbered column)) (fixed (codes "</i></code>") 2 0 refl refl))
@@ -110,28 +158,37 @@ spot_marks path (Some line) column =
     then_marks (fixed (codes "<code><i>") 2 0 refl refl) (then_marks (escaped_none (place_path path)) (then_marks (fixed (codes ":</i>") 1 0 refl refl)
     (then_marks (escaped_none (decimal line ++ numbered column)) (fixed (codes "</code>") 1 0 refl refl))))
 
-place_marks : (path : Option (List ℕ)) (line column : Option ℕ) → Marks (place_tags path) (place_quotes path line) (place_of path line column)
+place_marks : (path : Option (List ℕ)) (line column : Option ℕ) → Marks (path_tags path) (path_quotes path line) (place_of path line column)
 place_marks None line column = record { tagged = refl; quoted = refl }
 place_marks (Some path) line column = spot_marks path line column
 
-cell_marks : (f : Finding) → Marks (place_tags f.path) (place_quotes f.path f.line) (place_cell f)
-unfolding place_cell
-cell_marks f = place_marks f.path f.line f.column
+linked_marks : (address : Option (List ℕ)) (f : Finding)
+    → Marks (path_tags f.path + link_tags address) (path_quotes f.path f.line + link_quotes address None) (linked_place address f)
+linked_marks None f =
+    let own = place_marks f.path f.line f.column in
+    record { tagged = own.tagged ∙ omega arith; quoted = own.quoted ∙ omega arith }
+linked_marks (Some address) f =
+    let whole = in_link address None (place_marks f.path f.line f.column) in
+    record { tagged = whole.tagged ∙ omega arith; quoted = whole.quoted ∙ omega arith }
 
-link_marks : (rule uri : List ℕ) → Marks (4 + breaks_in rule) 4 (linked_to rule uri)
-unfolding linked_to
-link_marks rule uri =
-    let whole =
-    then_marks (fixed (codes "<a href=\"") 1 1 refl refl) (then_marks (escaped_none uri)
-    (then_marks (fixed (codes "\" rel=\"noopener noreferrer\"><code>") 1 3 refl refl)
-    (then_marks (broken_marks rule) (fixed (codes "</code></a>") 2 0 refl refl)))) in
-    record { tagged = whole.tagged ∙ omega arith; quoted = whole.quoted }
+cell_marks : (link : Option (List ℕ)) (f : Finding) → Marks (place_tags link f) (place_quotes link f) (place_cell link f)
+cell_marks link f = linked_marks (place_link link f) f
 
-plain_marks : (rule : List ℕ) → Marks (2 + breaks_in rule) 0 (codes "<code>" ++ (broken rule ++ codes "</code>"))
+-- ---- the rule
+
+pub plain_marks : (rule : List ℕ) → Marks (2 + breaks_in rule) 0 (rule_code rule)
 plain_marks rule =
     let whole =
     then_marks (fixed (codes "<code>") 1 0 refl refl) (then_marks (broken_marks rule) (fixed (codes "</code>") 1 0 refl refl)) in
     record { tagged = whole.tagged ∙ omega arith; quoted = whole.quoted }
+
+link_marks : (rule : List ℕ) (help name : Option (List ℕ)) → Marks (2 + (breaks_in rule + link_tags help)) (link_quotes help name) (linked rule help name)
+link_marks rule None name =
+    let own = plain_marks rule in
+    record { tagged = own.tagged ∙ omega arith; quoted = own.quoted }
+link_marks rule (Some address) name =
+    let whole = in_link address name (plain_marks rule) in
+    record { tagged = whole.tagged ∙ omega arith; quoted = whole.quoted ∙ omega arith }
 
 -- with a space after it
 spaced : {text : List ℕ} {m n : ℕ} → Marks m n text → Marks m n (text ++ codes " ")
@@ -139,38 +196,81 @@ spaced marks =
     let whole = then_marks marks (fixed (codes " ") 0 0 refl refl) in
     record { tagged = whole.tagged ∙ omega arith; quoted = whole.quoted ∙ omega arith }
 
-rule_marks : (rule : List ℕ) (help : Option (List ℕ)) → Marks (rule_tags rule help) (rule_quotes rule help) (rule_cell rule help)
-rule_marks [] help = record { tagged = refl; quoted = refl }
-rule_marks (b ∷ bs) None = spaced (plain_marks (b ∷ bs))
-rule_marks (b ∷ bs) (Some uri) = spaced (link_marks (b ∷ bs) uri)
+rule_marks : (rule : List ℕ) (help name : Option (List ℕ)) → Marks (rule_tags rule help) (rule_quotes rule help name) (rule_cell rule help name)
+rule_marks [] help name = record { tagged = refl; quoted = refl }
+rule_marks (b ∷ bs) help name = spaced (link_marks (b ∷ bs) help name)
 
-message_marks : (f : Finding) → Marks 5 0 (message_cells f)
+-- ---- the code
+
+text_none : (text : List ℕ) → Marks 0 0 (code_text text)
+text_none text = none_in_code false (code_text text) (code_apart text)
+
+marked_marks : (b : Bool) (text : List ℕ) → Marks (if b then 2 else 0) 0 (marked_if b text)
+marked_marks true text =
+    then_marks (fixed (codes "<mark>") 1 0 refl refl) (then_marks (text_none text) (fixed (codes "</mark>") 1 0 refl refl))
+marked_marks false text = text_none text
+
+newline_none : (b : Bool) → Marks 0 0 (if b then [] else codes "\n")
+newline_none true = record { tagged = refl; quoted = refl }
+newline_none false = record { tagged = refl; quoted = refl }
+
+line_marks : (code : Code) (line : ℕ × List ℕ) → Marks (mark_tags code line) 0 (code_line code line)
+unfolding code_line
+line_marks code line =
+    let whole = then_marks (newline_none (line.0 == 0)) (marked_marks (has_mark code line.0) (row_of code line.0 line.1)) in
+    record { tagged = whole.tagged ∙ omega arith; quoted = whole.quoted }
+
+lines_marks : (code : Code) (lines : List (ℕ × List ℕ)) → Marks (sum_by (mark_tags code) lines) 0 (flat_map (code_line code) lines)
+lines_marks code [] = record { tagged = refl; quoted = refl }
+lines_marks code (line ∷ lines) =
+    let whole = then_marks (line_marks code line) (lines_marks code lines) in
+    record { tagged = whole.tagged ∙ sym (sum_by-cons (mark_tags code) line lines); quoted = whole.quoted }
+
+html_marks : (code : Code) → Marks (4 + sum_by (mark_tags code) (enumerate_from 0 code.lines)) 0 (code_html code)
+unfolding code_html
+html_marks code =
+    let whole =
+    then_marks (fixed (codes "<pre><code>") 2 0 refl refl) (then_marks (lines_marks code (enumerate_from 0 code.lines))
+    (fixed (codes "</code></pre>") 2 0 refl refl)) in
+    record { tagged = whole.tagged ∙ omega arith; quoted = whole.quoted }
+
+code_marks : (code : Option Code) → Marks (code_tags code) 0 (code_cell code)
+code_marks None = record { tagged = refl; quoted = refl }
+code_marks (Some code) = html_marks code
+
+-- ---- the row
+
+pub message_marks : (f : Finding) → Marks (5 + code_tags f.code) 0 (message_cells f)
 unfolding message_cells
 message_marks f =
+    let whole =
     then_marks (fixed (codes " <b>") 1 0 refl refl) (then_marks (level_none f.level) (then_marks (fixed (codes "</b> <p>") 2 0 refl refl)
-    (then_marks (escaped_none f.message) (fixed (codes "</p> <div>") 2 0 refl refl))))
+    (then_marks (escaped_none f.message) (then_marks (fixed (codes "</p>") 1 0 refl refl)
+    (then_marks (code_marks f.code) (fixed (codes " <div>") 1 0 refl refl)))))) in
+    record { tagged = whole.tagged ∙ omega arith; quoted = whole.quoted }
 
-tool_marks : (f : Finding) → Marks 6 0 (tool_cells f)
+pub tool_marks : (f : Finding) → Marks 6 0 (tool_cells f)
 unfolding tool_cells
 tool_marks f =
     then_marks (fixed (codes "<span><b>") 2 0 refl refl) (then_marks (state_none f.state) (then_marks (fixed (codes "</b> ") 1 0 refl refl)
     (then_marks (escaped_none f.tool) (fixed (codes "</span></div></li>\n") 3 0 refl refl))))
 
-row_marks : (f : Finding) → Marks (row_tags f) (row_quotes f) (result_row f)
+row_marks : (link : Option (List ℕ)) (f : Finding) → Marks (row_tags link f) (row_quotes link f) (result_row link f)
 unfolding result_row
-row_marks f =
+row_marks link f =
     let whole =
-    then_marks (front_marks f) (then_marks (cell_marks f) (then_marks (message_marks f) (then_marks (rule_marks f.rule f.help) (tool_marks f)))) in
+    then_marks (front_marks f) (then_marks (cell_marks link f) (then_marks (message_marks f)
+    (then_marks (rule_marks f.rule f.help f.rule_name) (tool_marks f)))) in
     record { tagged = whole.tagged ∙ omega arith; quoted = whole.quoted ∙ omega arith }
 
-rows_marks : (fs : List Finding) → Marks (sum_by row_tags fs) (sum_by row_quotes fs) (rows_html fs)
-rows_marks [] = record { tagged = refl; quoted = refl }
-rows_marks (f ∷ fs) =
-    let whole = then_marks (row_marks f) (rows_marks fs) in
-    record { tagged = whole.tagged ∙ sym (sum_by-cons row_tags f fs); quoted = whole.quoted ∙ sym (sum_by-cons row_quotes f fs) }
+rows_marks : (link : Option (List ℕ)) (fs : List Finding) → Marks (sum_by (row_tags link) fs) (sum_by (row_quotes link) fs) (rows_html link fs)
+rows_marks link [] = record { tagged = refl; quoted = refl }
+rows_marks link (f ∷ fs) =
+    let whole = then_marks (row_marks link f) (rows_marks link fs) in
+    record { tagged = whole.tagged ∙ sym (sum_by-cons (row_tags link) f fs); quoted = whole.quoted ∙ sym (sum_by-cons (row_quotes link) f fs) }
 
-pub tags_counted : (fs : List Finding) → tags_in (rows_html fs) ≡ sum_by row_tags fs
-tags_counted fs = (rows_marks fs).tagged
+pub tags_counted : (link : Option (List ℕ)) (fs : List Finding) → tags_in (rows_html link fs) ≡ sum_by (row_tags link) fs
+tags_counted link fs = (rows_marks link fs).tagged
 
-pub quotes_counted : (fs : List Finding) → quotes_in (rows_html fs) ≡ sum_by row_quotes fs
-quotes_counted fs = (rows_marks fs).quoted
+pub quotes_counted : (link : Option (List ℕ)) (fs : List Finding) → quotes_in (rows_html link fs) ≡ sum_by (row_quotes link) fs
+quotes_counted link fs = (rows_marks link fs).quoted

@@ -1,5 +1,5 @@
 -- The groups of a page, and its lists.
-use Rattle.std.specs.Prelude.{ℕ, ◌+◌, ◌-◌, Bool, ◌&&◌, ◌==◌, List, [], ◌∷◌, ◌++◌, length, take, drop, codes, nat_lt, if◌then◌else◌}
+use Rattle.std.specs.Prelude.{ℕ, ◌+◌, ◌-◌, Bool, ◌&&◌, ◌==◌, List, [], ◌∷◌, ◌++◌, length, take, drop, codes, nat_lt, Option, if◌then◌else◌}
 use Rattle.std.specs.List.{count_by, list_any}
 use Rattle.std.specs.Fmt.{decimal}
 use Rattle.sarif_model.specs.declared.kinds.Level.{Level}
@@ -94,15 +94,15 @@ group_heading g =
     ++ (codes "</h3> <span>" ++ (numbers_text g.rows ++ codes "</span></summary>\n<ul>\n")))
 
 -- a group with this number, open if there is room above it
-unfoldable pub group_html : ℕ → ℕ → Group → List ℕ
-group_html room number g =
-    group_begin room number g.rows ++ (group_heading g ++ (rows_html g.rows ++ codes "</ul>\n</details>\n"))
+unfoldable pub group_html : Option (List ℕ) → ℕ → ℕ → Group → List ℕ
+group_html link room number g =
+    group_begin room number g.rows ++ (group_heading g ++ (rows_html link g.rows ++ codes "</ul>\n</details>\n"))
 
 -- groups from this number on; those are open before which fewer than `room` rows are
-abbrev pub groups_from : ℕ → ℕ → List Group → List ℕ
-groups_from room number [] = []
-groups_from room number (g ∷ gs) =
-    group_html room number g ++ groups_from (room - length g.rows) (number + 1) gs
+abbrev pub groups_from : Option (List ℕ) → ℕ → ℕ → List Group → List ℕ
+groups_from link room number [] = []
+groups_from link room number (g ∷ gs) =
+    group_html link room number g ++ groups_from link (room - length g.rows) (number + 1) gs
 
 -- ---- a list
 
@@ -122,25 +122,27 @@ more_begin rows =
     ++ (codes "><summary>" ++ (more_results (length rows)
     ++ (codes " <span>" ++ (numbers_text rows ++ codes "</span></summary>\n")))))
 
-unfoldable pub more_of : ℕ → List Group → List ℕ
-more_of number groups =
-    more_begin (grouped_rows groups) ++ (groups_from 0 number groups ++ codes "</details>\n")
+unfoldable pub more_of : Option (List ℕ) → ℕ → List Group → List ℕ
+more_of link number groups =
+    more_begin (grouped_rows groups) ++ (groups_from link 0 number groups ++ codes "</details>\n")
 
 -- the groups after the first ones, which are within one more
-abbrev pub more_groups : ℕ → List Group → List ℕ
-more_groups number [] = []
-more_groups number (g ∷ gs) = more_of number (g ∷ gs)
+abbrev pub more_groups : Option (List ℕ) → ℕ → List Group → List ℕ
+more_groups link number [] = []
+more_groups link number (g ∷ gs) = more_of link number (g ∷ gs)
 
-unfoldable pub list_html : ℕ → ℕ → List Group → List ℕ
-list_html room number groups =
-    groups_from room number (take most_groups groups)
-    ++ more_groups (number + most_groups) (drop most_groups groups)
+unfoldable pub list_html : Option (List ℕ) → ℕ → ℕ → List Group → List ℕ
+list_html link room number groups =
+    groups_from link room number (take most_groups groups)
+    ++ more_groups link (number + most_groups) (drop most_groups groups)
 
 -- a list without its rows
 pub record Part : Type 0 where
   -- the name of its section
   pub name : List ℕ
   pub heading : List ℕ
+  -- the template by which places are linked, if they are
+  pub link : Option (List ℕ)
   -- its groups are open up to this number of rows
   pub room : ℕ
   -- the number of its first group
@@ -158,7 +160,7 @@ section_begin name heading rows =
 -- the index and the groups of a list
 unfoldable pub section_middle : Part → List Group → List ℕ
 section_middle part groups =
-    index_html part.number groups part.rules part.all_rules ++ list_html part.room part.number groups
+    index_html part.number groups part.rules part.all_rules ++ list_html part.link part.room part.number groups
 
 -- the section of a list with these rows
 unfoldable pub section_of : Part → List Finding → List ℕ

@@ -26,7 +26,7 @@ first_link f number (g ∷ gs) =
 unfoldable pub index_front : Rule → List ℕ
 index_front r =
     codes "<tr><td>" ++ (decimal r.number
-    ++ (codes "</td><th scope=\"row\">" ++ (linked r.first.rule r.first.help ++ codes "</th><td>")))
+    ++ (codes "</td><th scope=\"row\">" ++ (linked r.first.rule r.first.help r.first.rule_name ++ codes "</th><td>")))
 
 -- the name of a rule, if it has one
 abbrev pub name_text : Option (List ℕ) → List ℕ

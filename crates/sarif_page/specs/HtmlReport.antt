@@ -165,6 +165,7 @@ abbrev pub hits_part : Verdict → ℕ → Tables → Part
 hits_part verdict max tables = record {
   name = codes "hits";
   heading = hits_heading verdict tables.all_hits max;
+  link = tables.link;
   room = most_open;
   number = 1;
   rules = tables.rules;
@@ -176,6 +177,7 @@ abbrev pub others_part : Tables → Part
 others_part tables = record {
   name = codes "others";
   heading = others_text tables.all_others;
+  link = tables.link;
   room = others_room tables.hits;
   number = length (groups_of tables.hits) + 1;
   rules = if length tables.hits == 0 then tables.rules else [];
@@ -221,4 +223,4 @@ page_of facts verdict hits tables =
 unfoldable pub html_of : Facts → List ℕ
 html_of facts =
     page_of facts (verdict_of facts.count facts.policy) (hits_of facts.count facts.policy)
-    (tables_of facts.findings)
+    (tables_of facts.link facts.findings)

@@ -1,4 +1,5 @@
--- A row of a page, and the path of its group. Strings of a log are only in element text and in `href`, escaped.
+-- A row of a page, and the path of its group. Strings of a log are only in element text, in `href` and in `title`,
+-- escaped.
 use Rattle.std.specs.Prelude.{ℕ, Bool, true, false, List, [], ◌∷◌, ◌++◌, Option, Some, None, codes}
 use Rattle.std.specs.Fmt.{decimal}
 use Rattle.sarif_model.specs.Level.{level_name}
@@ -7,7 +8,22 @@ use Rattle.sarif_findings.specs.declared.finding.Finding.{Finding}
 use Rattle.sarif_findings.specs.Finding.{numbered, place_path}
 use Rattle.sarif_shown.specs.declared.escaping.Escaping.TheVariants.{Page}
 use Rattle.sarif_shown.specs.Escaped.{escaped}
+use Rattle.sarif_shown.specs.Linked.{place_link}
 use Rattle.sarif_page.specs.HtmlBreaks.{broken}
+use Rattle.sarif_page.specs.HtmlCode.{code_cell}
+
+-- ---- links
+
+-- the name of what a link is about, as its title
+abbrev pub title_of : Option (List ℕ) → List ℕ
+title_of None = []
+title_of (Some name) = codes " title=\"" ++ (escaped Page name ++ codes "\"")
+
+-- the beginning of a link to an address
+unfoldable pub link_begin : List ℕ → Option (List ℕ) → List ℕ
+link_begin address name =
+    codes "<a href=\"" ++ (escaped Page address
+    ++ (codes "\"" ++ (title_of name ++ codes " rel=\"noopener noreferrer\">")))
 
 -- ---- a row
 
@@ -41,41 +57,50 @@ abbrev pub place_of : Option (List ℕ) → Option ℕ → Option ℕ → List �
 place_of None line column = codes "<code>-</code>"
 place_of (Some path) line column = spot_in path line column
 
-unfoldable pub place_cell : Finding → List ℕ
-place_cell f = place_of f.path f.line f.column
+abbrev pub place_text : Finding → List ℕ
+place_text f = place_of f.path f.line f.column
+
+-- the place, which links to its address if there is one
+abbrev pub linked_place : Option (List ℕ) → Finding → List ℕ
+linked_place None f = place_text f
+linked_place (Some address) f = link_begin address None ++ (place_text f ++ codes "</a>")
+
+abbrev pub place_cell : Option (List ℕ) → Finding → List ℕ
+place_cell link f = linked_place (place_link link f) f
 
 unfoldable pub message_cells : Finding → List ℕ
 message_cells f =
     codes " <b>" ++ (level_name f.level
-    ++ (codes "</b> <p>" ++ (escaped Page f.message ++ codes "</p> <div>")))
+    ++ (codes "</b> <p>" ++ (escaped Page f.message ++ (codes "</p>"
+    ++ (code_cell f.code ++ codes " <div>")))))
 
--- a rule that links to its page
-unfoldable pub linked_to : List ℕ → List ℕ → List ℕ
-linked_to rule uri =
-    codes "<a href=\"" ++ (escaped Page uri
-    ++ (codes "\" rel=\"noopener noreferrer\"><code>" ++ (broken rule ++ codes "</code></a>")))
+abbrev pub rule_code : List ℕ → List ℕ
+rule_code rule = codes "<code>" ++ (broken rule ++ codes "</code>")
 
--- a rule, which links to its page if there is one
-abbrev pub linked : List ℕ → Option (List ℕ) → List ℕ
-linked rule None = codes "<code>" ++ (broken rule ++ codes "</code>")
-linked rule (Some uri) = linked_to rule uri
+-- a rule, which links to its page if there is one; the link has its name
+abbrev pub linked : List ℕ → Option (List ℕ) → Option (List ℕ) → List ℕ
+linked rule None name = rule_code rule
+linked rule (Some address) name = link_begin address name ++ (rule_code rule ++ codes "</a>")
 
 -- nothing without a rule
-abbrev pub rule_cell : List ℕ → Option (List ℕ) → List ℕ
-rule_cell [] help = []
-rule_cell (b ∷ bs) help = linked (b ∷ bs) help ++ codes " "
+abbrev pub rule_cell : List ℕ → Option (List ℕ) → Option (List ℕ) → List ℕ
+rule_cell [] help name = []
+rule_cell (b ∷ bs) help name = linked (b ∷ bs) help name ++ codes " "
 
 unfoldable pub tool_cells : Finding → List ℕ
 tool_cells f =
     codes "<span><b>" ++ (state_name f.state
     ++ (codes "</b> " ++ (escaped Page f.tool ++ codes "</span></div></li>\n")))
 
-unfoldable pub result_row : Finding → List ℕ
-result_row f = row_front f ++ (place_cell f ++ (message_cells f ++ (rule_cell f.rule f.help ++ tool_cells f)))
+unfoldable pub result_row : Option (List ℕ) → Finding → List ℕ
+result_row link f =
+    row_front f ++ (place_cell link f ++ (message_cells f
+    ++ (rule_cell f.rule f.help f.rule_name ++ tool_cells f)))
 
-abbrev pub rows_html : List Finding → List ℕ
-rows_html [] = []
-rows_html (f ∷ fs) = result_row f ++ rows_html fs
+-- rows whose places are linked by this template, if there is one
+abbrev pub rows_html : Option (List ℕ) → List Finding → List ℕ
+rows_html link [] = []
+rows_html link (f ∷ fs) = result_row link f ++ rows_html link fs
 
 -- ---- the path of a group
 

@@ -1,5 +1,5 @@
 -- The rows of a page: hits before others, and in each of the two lists by file. The rows of a file are in groups.
-use Rattle.std.specs.Prelude.{ℕ, zero, suc, ◌+◌, ◌-◌, Bool, not, List, [], ◌∷◌, ◌++◌, length, take, drop, bytes_eq, flat_map, unwrap_or, ◌==◌, if◌then◌else◌}
+use Rattle.std.specs.Prelude.{ℕ, zero, suc, ◌+◌, ◌-◌, Bool, not, List, [], ◌∷◌, ◌++◌, length, take, drop, bytes_eq, flat_map, unwrap_or, Option, ◌==◌, if◌then◌else◌}
 use Rattle.std.specs.List.{filter}
 use Rattle.sarif_findings.specs.declared.finding.Finding.{Finding}
 use Rattle.sarif_shown.specs.Listed.{hits_among, others_among}
@@ -52,15 +52,18 @@ pub record Tables : Type 0 where
   pub all_others : ℕ
   pub rules : List Rule
   pub all_rules : ℕ
+  -- the template by which places are linked, if they are
+  pub link : Option (List ℕ)
 
-abbrev pub tables_of : List Finding → Tables
-tables_of findings = record {
+abbrev pub tables_of : Option (List ℕ) → List Finding → Tables
+tables_of link findings = record {
   hits = hit_rows findings;
   others = other_rows findings;
   all_hits = length (hits_among findings);
   all_others = length (others_among findings);
   rules = shown_rules (first_list findings);
   all_rules = length (rules_of (first_list findings));
+  link = link;
 }
 
 -- how many of this number of results have no row, if these have one

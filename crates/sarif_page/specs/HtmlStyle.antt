@@ -202,7 +202,7 @@ style_narrow =
     codes "li>*{grid-row:auto}\n" ++ (
     codes "li>p,li>pre,li>div{grid-area:auto/1/auto/-1}\n" ++ (
     codes "li>p{max-height:8rem;font-size:1rem}\n" ++ (
-    codes "li>div{max-height:3.75rem}\n" ++ (
+    codes "li>div{max-height:3.75rem;padding-block:.25rem}\n" ++ (
     codes "li>div a{padding-block:.25rem}\n" ++ (
     codes "}\n"))))))))))))))))))))))))))
 

@@ -1,4 +1,6 @@
+pub mod HtmlAttributes
 pub mod HtmlBreaks
+pub mod HtmlCode
 pub mod HtmlFixed
 pub mod HtmlGroups
 pub mod HtmlIndex

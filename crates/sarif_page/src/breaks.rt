@@ -6,7 +6,7 @@ ghost use Rattle.sarif_page.specs.HtmlBreaks as said;
 use std::alloc::AllocError;
 
 /// Adds a character, escaped.
-fn push_escaped(text: &mut String, c: char) -> Result<(), AllocError>
+pub(crate) fn push_escaped(text: &mut String, c: char) -> Result<(), AllocError>
     ensures { OnOk result (string_bytes text.new ≡ string_bytes text.old ++ page_char c) }
 {
     match c {

@@ -11,6 +11,7 @@ use crate::groups::{Group, MOST_GROUPED};
 use crate::html_filters::{same_level, same_state};
 use crate::html_rows::{push_file, push_rows};
 use sarif_findings::Finding;
+use sarif_links::Template;
 use sarif_model::{Level, State};
 use sarif_shown::count_text;
 use std::alloc::{AllocError, Global};
@@ -220,16 +221,18 @@ fn push_group_heading(
 fn push_group(
     alloc: Global,
     text: &mut String,
+    link: Option<&Template>,
     room: usize,
     number: usize,
     group: &Group<'_, '_>,
 ) -> Result<(), AllocError>
     ensures { OnOk result (string_bytes text.new ≡ string_bytes text.old
-        ++ said.group_html room number (group_in group.now)) }
+        ++ said.group_html (option_map (λ link. link.now) link.entry) room number
+        (group_in group.now)) }
 {
     push_group_begin(alloc, text, room, number, group.rows)?;
     push_group_heading(alloc, text, group)?;
-    push_rows(alloc, text, group.rows)?;
+    push_rows(alloc, text, link, group.rows)?;
     text.push_str("</ul>\n</details>\n")?;
     Ok(())
 }
@@ -238,18 +241,20 @@ fn push_group(
 pub(crate) fn push_groups(
     alloc: Global,
     text: &mut String,
+    link: Option<&Template>,
     room: usize,
     number: usize,
     groups: &[Group<'_, '_>],
 ) -> Result<(), AllocError>
     requires { number + length groups.now < 2 ^ 64 }
     ensures { OnOk result (string_bytes text.new ≡ string_bytes text.old
-        ++ said.groups_from room number (groups_in groups.now)) }
+        ++ said.groups_from (option_map (λ link. link.now) link.entry) room number
+        (groups_in groups.now)) }
 {
     let mut room = room;
     let mut number = number;
     for group in groups {
-        push_group(alloc, text, room, number, group)?;
+        push_group(alloc, text, link, room, number, group)?;
         room = room.saturating_sub(group.rows.len());
         number += 1;
     }

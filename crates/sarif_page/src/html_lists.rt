@@ -1,5 +1,5 @@
 //! The lists of a page: hits, and other results.
-ghost use Rattle.std.specs.Prelude.{◌≡◌, ◌<◌, ◌≤◌, ◌+◌, ◌^◌, ◌++◌, length, take, drop, IfOk, OnOk, string_bytes};
+ghost use Rattle.std.specs.Prelude.{◌≡◌, ◌<◌, ◌≤◌, ◌+◌, ◌^◌, ◌++◌, length, take, drop, IfOk, OnOk, option_map, string_bytes};
 ghost use Rattle.sarif_page.specs.Internal.ByFile.{findings_in};
 ghost use Rattle.sarif_page.specs.Internal.Groups.{groups_in};
 ghost use Rattle.sarif_page.specs.Internal.Lists.{part_in};
@@ -12,6 +12,7 @@ use crate::html_groups::{numbers_text, push_groups, push_has};
 use crate::html_index::push_index;
 use crate::rules::Index;
 use sarif_findings::Finding;
+use sarif_links::Template;
 use sarif_shown::count_text;
 use std::alloc::{AllocError, Global};
 use std::hash::RandomState;
@@ -29,6 +30,8 @@ pub(crate) struct List<'n, 'f> {
     pub(crate) name: &'n str,
     /// Its heading.
     pub(crate) heading: &'n str,
+    /// The template by which its places are linked, if they are.
+    pub(crate) link: Option<&'n Template>,
     /// Its groups are open up to this number of rows.
     pub(crate) room: usize,
     /// The number of its first group.
@@ -106,17 +109,18 @@ fn more_begin(alloc: Global, rows: &[&Finding]) -> Result<String, AllocError>
 fn push_more(
     alloc: Global,
     text: &mut String,
+    link: Option<&Template>,
     number: usize,
     groups: &[Group<'_, '_>],
 ) -> Result<(), AllocError>
     requires { number + length groups.now < 2 ^ 64 }
     ensures { OnOk result (string_bytes text.new ≡ string_bytes text.old
-        ++ said.more_of number (groups_in groups.now)) }
+        ++ said.more_of (option_map (λ link. link.now) link.entry) number (groups_in groups.now)) }
 {
     let rows = rows_of_groups(alloc, groups)?;
     let begin = more_begin(alloc, &rows)?;
     text.push_str(begin.as_str())?;
-    push_groups(alloc, text, 0, number, groups)?;
+    push_groups(alloc, text, link, 0, number, groups)?;
     text.push_str("</details>\n")?;
     Ok(())
 }
@@ -125,17 +129,18 @@ fn push_more(
 fn push_more_groups(
     alloc: Global,
     text: &mut String,
+    link: Option<&Template>,
     number: usize,
     groups: &[Group<'_, '_>],
 ) -> Result<(), AllocError>
     requires { number + length groups.now < 2 ^ 64 }
     ensures { OnOk result (string_bytes text.new ≡ string_bytes text.old
-        ++ said.more_groups number (groups_in groups.now)) }
+        ++ said.more_groups (option_map (λ link. link.now) link.entry) number (groups_in groups.now)) }
 {
     if groups.is_empty() {
         return Ok(());
     }
-    push_more(alloc, text, number, groups)
+    push_more(alloc, text, link, number, groups)
 }
 
 /// Adds the groups of a list.
@@ -143,16 +148,24 @@ fn push_more_groups(
 fn push_list(
     alloc: Global,
     text: &mut String,
+    link: Option<&Template>,
     room: usize,
     number: usize,
     groups: &[Group<'_, '_>],
 ) -> Result<(), AllocError>
     requires { number + length groups.now < 2 ^ 63 }
     ensures { OnOk result (string_bytes text.new ≡ string_bytes text.old
-        ++ said.list_html room number (groups_in groups.now)) }
+        ++ said.list_html (option_map (λ link. link.now) link.entry) room number
+        (groups_in groups.now)) }
 {
-    push_groups(alloc, text, room, number, first_groups(groups))?;
-    push_more_groups(alloc, text, number + MOST_GROUPS, later_groups(groups))?;
+    push_groups(alloc, text, link, room, number, first_groups(groups))?;
+    push_more_groups(
+        alloc,
+        text,
+        link,
+        number + MOST_GROUPS,
+        later_groups(groups),
+    )?;
     Ok(())
 }
 
@@ -192,7 +205,7 @@ fn push_section_middle(
         ++ said.section_middle (part_in list.now) (groups_in groups.now)) }
 {
     push_index(alloc, text, list.number, groups, list.index)?;
-    push_list(alloc, text, list.room, list.number, groups)?;
+    push_list(alloc, text, list.link, list.room, list.number, groups)?;
     Ok(())
 }
 

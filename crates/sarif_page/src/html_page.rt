@@ -238,6 +238,7 @@ fn push_hit_list(
     let list = List {
         name: "hits",
         heading: heading.as_str(),
+        link: rows.link,
         room: MOST_OPEN,
         number: 1,
         index: &rows.index,
@@ -262,6 +263,7 @@ fn push_other_list(
     let list = List {
         name: "others",
         heading: heading.as_str(),
+        link: rows.link,
         room: others_room(&rows.hits),
         number: before + 1,
         index: others_index(rows, &none),
@@ -351,7 +353,7 @@ pub fn html_report(alloc: Global, told: &ReportInput<'_>) -> Result<String, Allo
 {
     let ReportInput { counts, policy, .. } = *told;
     let verdict = verdict(counts, policy);
-    let rows = rows_of(alloc, told.seed, told.findings)?;
+    let rows = rows_of(alloc, told.seed, told.link, told.findings)?;
     let mut text = String::new(alloc);
     let hits = hits(counts, policy);
     push_top(alloc, &mut text, verdict, hits, policy)?;

@@ -1,13 +1,15 @@
 //! The rows of a page.
-ghost use Rattle.std.specs.Prelude.{◌≡◌, ◌++◌, IfOk, OnOk, None, string_bytes};
+ghost use Rattle.std.specs.Prelude.{◌≡◌, ◌++◌, IfOk, OnOk, Some, option_map, string_bytes};
 ghost use Rattle.std.specs.Fmt.{decimal};
 ghost use Rattle.sarif_findings.specs.Finding.{numbered};
 ghost use Rattle.sarif_page.specs.Internal.ByFile.{findings_in};
 ghost use Rattle.sarif_page.specs.HtmlRow as said;
 
 use crate::breaks::push_broken;
+use crate::html_code::push_code;
 use sarif_findings::Finding;
-use sarif_shown::{Escaping, push_numbered, push_path};
+use sarif_links::Template;
+use sarif_shown::{Escaping, place_link, push_numbered, push_path};
 use std::alloc::{AllocError, Global};
 
 fn hit_word(hit: bool) -> &'static str
@@ -39,6 +41,38 @@ fn push_front(text: &mut String, finding: &Finding) -> Result<(), AllocError>
 {
     let hit = hit_word(finding.hit);
     push_data(text, finding.level.name(), finding.state.name(), hit)?;
+    Ok(())
+}
+
+/// Adds the title of a link, if it has one.
+fn push_title(alloc: Global, text: &mut String, name: Option<&str>) -> Result<(), AllocError>
+    ensures { OnOk result (string_bytes text.new
+        ≡ string_bytes text.old ++ said.title_of (option_map (λ name. name.now) name.entry)) }
+{
+    if let Some(name) = name {
+        text.push_str(" title=\"")?;
+        Escaping::Page.push_str(alloc, text, name)?;
+        text.push_str("\"")?;
+    }
+    Ok(())
+}
+
+/// Adds the beginning of a link to this address.
+#[tactic(auto, unfolding(crate::specs::HtmlRow::link_begin))]
+fn push_link_begin(
+    alloc: Global,
+    text: &mut String,
+    address: &str,
+    name: Option<&str>,
+) -> Result<(), AllocError>
+    ensures { OnOk result (string_bytes text.new ≡ string_bytes text.old
+        ++ said.link_begin address.now (option_map (λ name. name.now) name.entry)) }
+{
+    text.push_str("<a href=\"")?;
+    Escaping::Page.push_str(alloc, text, address)?;
+    text.push_str("\"")?;
+    push_title(alloc, text, name)?;
+    text.push_str(" rel=\"noopener noreferrer\">")?;
     Ok(())
 }
 
@@ -103,10 +137,9 @@ fn push_spot(
 }
 
 /// Adds the place.
-#[tactic(auto, unfolding(crate::specs::HtmlRow::place_cell))]
-fn push_place_cell(alloc: Global, text: &mut String, finding: &Finding) -> Result<(), AllocError>
+fn push_place(alloc: Global, text: &mut String, finding: &Finding) -> Result<(), AllocError>
     ensures { OnOk result
-        (string_bytes text.new ≡ string_bytes text.old ++ said.place_cell finding.now) }
+        (string_bytes text.new ≡ string_bytes text.old ++ said.place_text finding.now) }
 {
     match &finding.path {
         None => text.push_str("<code>-</code>")?,
@@ -115,28 +148,80 @@ fn push_place_cell(alloc: Global, text: &mut String, finding: &Finding) -> Resul
     Ok(())
 }
 
-/// Adds a rule that links to its page.
-#[tactic(auto, unfolding(crate::specs::HtmlRow::linked_to))]
-fn push_link(alloc: Global, text: &mut String, rule: &str, uri: &str) -> Result<(), AllocError>
-    ensures { OnOk result (string_bytes text.new
-        ≡ string_bytes text.old ++ said.linked_to rule.now uri.now) }
+/// Adds the place in a link to this address.
+fn push_place_link(
+    alloc: Global,
+    text: &mut String,
+    address: &str,
+    finding: &Finding,
+) -> Result<(), AllocError>
+    ensures { OnOk result (string_bytes text.new ≡ string_bytes text.old
+        ++ said.linked_place (Some address.now) finding.now) }
 {
-    text.push_str("<a href=\"")?;
-    Escaping::Page.push_str(alloc, text, uri)?;
-    text.push_str("\" rel=\"noopener noreferrer\"><code>")?;
-    push_broken(text, rule)?;
-    text.push_str("</code></a>")?;
+    push_link_begin(alloc, text, address, None)?;
+    push_place(alloc, text, finding)?;
+    text.push_str("</a>")?;
     Ok(())
 }
 
-/// Adds a rule that has no page.
-fn push_plain(text: &mut String, rule: &str) -> Result<(), AllocError>
-    ensures { OnOk result (string_bytes text.new
-        ≡ string_bytes text.old ++ said.linked rule.now None) }
+/// Adds the place, which links to its address if there is one.
+fn push_place_cell(
+    alloc: Global,
+    text: &mut String,
+    link: Option<&Template>,
+    finding: &Finding,
+) -> Result<(), AllocError>
+    ensures { OnOk result (string_bytes text.new ≡ string_bytes text.old
+        ++ said.place_cell (option_map (λ link. link.now) link.entry) finding.now) }
+{
+    match place_link(alloc, link, finding)? {
+        Some(address) => push_place_link(alloc, text, address.as_str(), finding)?,
+        None => push_place(alloc, text, finding)?,
+    }
+    Ok(())
+}
+
+/// Adds a rule as code.
+fn push_rule_code(text: &mut String, rule: &str) -> Result<(), AllocError>
+    ensures { OnOk result
+        (string_bytes text.new ≡ string_bytes text.old ++ said.rule_code rule.now) }
 {
     text.push_str("<code>")?;
     push_broken(text, rule)?;
     text.push_str("</code>")?;
+    Ok(())
+}
+
+/// Adds the beginning of a link to the page of a rule, with its name if it has one.
+fn push_rule_begin(
+    alloc: Global,
+    text: &mut String,
+    address: &str,
+    finding: &Finding,
+) -> Result<(), AllocError>
+    ensures { OnOk result (string_bytes text.new ≡ string_bytes text.old
+        ++ said.link_begin address.now finding.now.rule_name) }
+{
+    match &finding.rule_name {
+        Some(name) => push_link_begin(alloc, text, address, Some(name.as_str()))?,
+        None => push_link_begin(alloc, text, address, None)?,
+    }
+    Ok(())
+}
+
+/// Adds the rule of a result in a link to its page.
+fn push_rule_link(
+    alloc: Global,
+    text: &mut String,
+    address: &str,
+    finding: &Finding,
+) -> Result<(), AllocError>
+    ensures { OnOk result (string_bytes text.new ≡ string_bytes text.old
+        ++ said.linked finding.now.rule (Some address.now) finding.now.rule_name) }
+{
+    push_rule_begin(alloc, text, address, finding)?;
+    push_rule_code(text, finding.rule.as_str())?;
+    text.push_str("</a>")?;
     Ok(())
 }
 
@@ -146,21 +231,20 @@ pub(crate) fn push_linked(
     text: &mut String,
     finding: &Finding,
 ) -> Result<(), AllocError>
-    ensures { OnOk result (string_bytes text.new
-        ≡ string_bytes text.old ++ said.linked finding.now.rule finding.now.help) }
+    ensures { OnOk result (string_bytes text.new ≡ string_bytes text.old
+        ++ said.linked finding.now.rule finding.now.help finding.now.rule_name) }
 {
-    let rule = finding.rule.as_str();
     match &finding.help {
-        None => push_plain(text, rule)?,
-        Some(uri) => push_link(alloc, text, rule, uri.as_str())?,
+        None => push_rule_code(text, finding.rule.as_str())?,
+        Some(address) => push_rule_link(alloc, text, address.as_str(), finding)?,
     }
     Ok(())
 }
 
 /// Adds the rule, if there is one.
 fn push_rule(alloc: Global, text: &mut String, finding: &Finding) -> Result<(), AllocError>
-    ensures { OnOk result (string_bytes text.new
-        ≡ string_bytes text.old ++ said.rule_cell finding.now.rule finding.now.help) }
+    ensures { OnOk result (string_bytes text.new ≡ string_bytes text.old
+        ++ said.rule_cell finding.now.rule finding.now.help finding.now.rule_name) }
 {
     if finding.rule.as_str().is_empty() {
         return Ok(());
@@ -170,7 +254,7 @@ fn push_rule(alloc: Global, text: &mut String, finding: &Finding) -> Result<(), 
     Ok(())
 }
 
-/// Adds the level and the message of a row.
+/// Adds the level, the message and the code of a row.
 #[tactic(auto, unfolding(crate::specs::HtmlRow::message_cells))]
 fn push_message_cells(alloc: Global, text: &mut String, finding: &Finding) -> Result<(), AllocError>
     ensures { OnOk result
@@ -180,7 +264,9 @@ fn push_message_cells(alloc: Global, text: &mut String, finding: &Finding) -> Re
     text.push_str(finding.level.name())?;
     text.push_str("</b> <p>")?;
     Escaping::Page.push_str(alloc, text, finding.message.as_str())?;
-    text.push_str("</p> <div>")?;
+    text.push_str("</p>")?;
+    push_code(alloc, text, finding)?;
+    text.push_str(" <div>")?;
     Ok(())
 }
 
@@ -200,29 +286,35 @@ fn push_tool_cells(alloc: Global, text: &mut String, finding: &Finding) -> Resul
 
 /// Adds the row of a result.
 #[tactic(auto, unfolding(crate::specs::HtmlRow::result_row))]
-fn push_row(alloc: Global, text: &mut String, finding: &Finding) -> Result<(), AllocError>
-    ensures { OnOk result
-        (string_bytes text.new ≡ string_bytes text.old ++ said.result_row finding.now) }
+fn push_row(
+    alloc: Global,
+    text: &mut String,
+    link: Option<&Template>,
+    finding: &Finding,
+) -> Result<(), AllocError>
+    ensures { OnOk result (string_bytes text.new ≡ string_bytes text.old
+        ++ said.result_row (option_map (λ link. link.now) link.entry) finding.now) }
 {
     push_front(text, finding)?;
-    push_place_cell(alloc, text, finding)?;
+    push_place_cell(alloc, text, link, finding)?;
     push_message_cells(alloc, text, finding)?;
     push_rule(alloc, text, finding)?;
     push_tool_cells(alloc, text, finding)?;
     Ok(())
 }
 
-/// Adds the rows of these results.
+/// Adds the rows of these results. Places link to their addresses by this template, if there is one.
 pub(crate) fn push_rows(
     alloc: Global,
     text: &mut String,
+    link: Option<&Template>,
     rows: &[&Finding],
 ) -> Result<(), AllocError>
-    ensures { OnOk result (string_bytes text.new
-        ≡ string_bytes text.old ++ said.rows_html (findings_in rows.now)) }
+    ensures { OnOk result (string_bytes text.new ≡ string_bytes text.old
+        ++ said.rows_html (option_map (λ link. link.now) link.entry) (findings_in rows.now)) }
 {
     for row in rows {
-        push_row(alloc, text, row)?;
+        push_row(alloc, text, link, row)?;
     }
     Ok(())
 }

@@ -180,7 +180,7 @@ li{grid-template-columns:auto auto minmax(0,1fr);grid-template-rows:none;gap:.12
 li>*{grid-row:auto}
 li>p,li>pre,li>div{grid-area:auto/1/auto/-1}
 li>p{max-height:8rem;font-size:1rem}
-li>div{max-height:3.75rem}
+li>div{max-height:3.75rem;padding-block:.25rem}
 li>div a{padding-block:.25rem}
 }
 "

@@ -1,5 +1,5 @@
 //! Which results have a row on a page.
-ghost use Rattle.std.specs.Prelude.{◌≡◌, ◌<◌, ◌+◌, ◌^◌, ◌==◌, length, IfOk, if◌then◌else◌};
+ghost use Rattle.std.specs.Prelude.{◌≡◌, ◌<◌, ◌+◌, ◌^◌, ◌==◌, length, IfOk, option_map, if◌then◌else◌};
 ghost use Rattle.sarif_page.specs.Internal.ByFile.{findings_in};
 ghost use Rattle.sarif_page.specs.Internal.Lists.{tables_in};
 ghost use Rattle.sarif_page.specs.HtmlRows.{tables_of};
@@ -8,6 +8,7 @@ ghost use Rattle.sarif_shown.specs.Listed.{hits_among as hits_in, others_among a
 use crate::by_file::by_file;
 use crate::rules::{Index, index_of};
 use sarif_findings::Finding;
+use sarif_links::Template;
 use sarif_shown::{push_hits, push_others};
 use std::alloc::{AllocError, Global};
 use std::hash::RandomState;
@@ -28,6 +29,8 @@ pub(crate) struct Rows<'f> {
     pub(crate) all_others: usize,
     /// The rules of the first list that there is.
     pub(crate) index: Index<'f>,
+    /// The template by which places are linked, if they are.
+    pub(crate) link: Option<&'f Template>,
     /// The seed of the tables by file.
     pub(crate) seed: RandomState,
 }
@@ -57,12 +60,14 @@ fn first_list<'a, 'f>(hits: &'a [&'f Finding], others: &'a [&'f Finding]) -> &'a
 
 /// Chooses the rows of these findings: the first `MOST_ROWS` of the hits by file, then of the others by file.
 #[tactic(auto, unfolding(crate::specs::HtmlRows::hit_rows, crate::specs::HtmlRows::other_rows))]
-pub(crate) fn rows_of(
+pub(crate) fn rows_of<'f>(
     alloc: Global,
     seed: RandomState,
-    findings: &[Finding],
-) -> Result<Rows<'_>, AllocError>
-    ensures tables { IfOk result (λ rows. tables_in rows ≡ tables_of findings.now) }
+    link: Option<&'f Template>,
+    findings: &'f [Finding],
+) -> Result<Rows<'f>, AllocError>
+    ensures tables { IfOk result (λ rows. tables_in rows
+        ≡ tables_of (option_map (λ link. link.now) link.entry) findings.now) }
     ensures room { IfOk result (λ rows. rows.all_hits + rows.all_others < 2 ^ 64) }
 {
     let hits = hits_among(alloc, findings)?;
@@ -76,6 +81,7 @@ pub(crate) fn rows_of(
         all_hits: hits.len(),
         all_others: others.len(),
         index,
+        link,
         seed,
     })
 }

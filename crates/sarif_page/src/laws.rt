@@ -1,23 +1,26 @@
 //! Laws of the page. Each law is the contract of a function that does nothing. A log may be hostile, so the laws
 //! cover any strings.
-ghost use Rattle.std.specs.Prelude.{◌≡◌, ◌≤◌, ℕ, List, Bool, true};
+ghost use Rattle.std.specs.Prelude.{◌≡◌, ◌≤◌, ℕ, List, Option, Bool, false, true};
 ghost use Rattle.std.specs.Prelude.{not, ◌&&◌, []};
-ghost use Rattle.std.specs.Prelude.{◌+◌, length};
+ghost use Rattle.std.specs.Prelude.{◌+◌, flat_map, length};
 ghost use Rattle.std.specs.List.{count_by, list_all, sum_by};
 ghost use Rattle.sarif_findings.specs.declared.finding.Finding.{Finding};
 ghost use Rattle.sarif_shown.specs.declared.escaping.Escaping.TheVariants.{Page};
 ghost use Rattle.sarif_shown.specs.Escaped.{escaped};
 ghost use Rattle.sarif_shown.specs.EscapedLaws.{is_element_text};
 ghost use Rattle.sarif_shown.specs.Listed.{hits_among, others_among};
+ghost use Rattle.sarif_page.specs.HtmlAttributes.{attributes_in, row_attributes};
 ghost use Rattle.sarif_page.specs.HtmlBreaks.{broken};
+ghost use Rattle.sarif_page.specs.HtmlCode.{code_text};
 ghost use Rattle.sarif_page.specs.HtmlRow.{rows_html};
-ghost use Rattle.sarif_page.specs.HtmlLaws.{are_together, has_breaks, quotes_in, row_quotes, row_tags, tags_in};
+ghost use Rattle.sarif_page.specs.HtmlLaws.{are_together, has_breaks, is_code_text, quotes_in, row_quotes, row_tags, tags_in};
 ghost use Rattle.sarif_page.specs.HtmlRows as page;
 
 /// A string in a page contains no `<`, `>`, `"` or `'`, and each `&` of it begins an entity: no string makes a tag
-/// or an attribute.
+/// or an attribute. In code each `#` is written by its number, `&#35;`.
 pub fn page_texts_hold_no_markup()
-    ensures { (text : List ℕ) → is_element_text (escaped Page text) ≡ true }
+    ensures texts { (text : List ℕ) → is_element_text (escaped Page text) ≡ true }
+    ensures code { (text : List ℕ) → is_code_text false (code_text text) ≡ true }
 {}
 
 /// A path or a rule in a page contains none of these either, except that `<wbr>` is after `-`, `.`, `_`, `/` and `:`,
@@ -63,11 +66,19 @@ pub fn page_groups_have_each_row()
         count_by test (page.grouped_rows (page.groups_of rows)) ≡ count_by test rows }
 {}
 
-/// Each row of a page has only its own tags and attributes, for any strings of its result: no log adds a tag, an
-/// attribute or a cell.
+/// Each row of a page has only its own tags and attributes, for any strings of its result and any template of links:
+/// no log adds a tag, an attribute or a cell.
 pub fn page_rows_have_their_tags()
-    ensures tags { (findings : List Finding) → tags_in (rows_html findings)
-        ≡ sum_by row_tags findings }
-    ensures quotes { (findings : List Finding) → quotes_in (rows_html findings)
-        ≡ sum_by row_quotes findings }
+    ensures tags { (link : Option (List ℕ)) (findings : List Finding) →
+        tags_in (rows_html link findings) ≡ sum_by (row_tags link) findings }
+    ensures quotes { (link : Option (List ℕ)) (findings : List Finding) →
+        quotes_in (rows_html link findings) ≡ sum_by (row_quotes link) findings }
+{}
+
+/// A reader of the rows of a page finds only these attributes: the level, the state and the hit of each row, the class of
+/// a place without a line, and those of links to a place or to the page of a rule. So no `id` is in a row, and each
+/// `href` of it is the address of a place by the template, or that of a rule.
+pub fn page_rows_have_their_attributes()
+    ensures { (link : Option (List ℕ)) (findings : List Finding) →
+        attributes_in (rows_html link findings) ≡ flat_map (row_attributes link) findings }
 {}

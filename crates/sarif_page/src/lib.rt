@@ -4,6 +4,7 @@
 mod breaks;
 mod by_file;
 mod groups;
+mod html_code;
 mod html_counts;
 mod html_filters;
 mod html_fixed;
@@ -21,5 +22,6 @@ mod rules;
 pub use html_page::html_report;
 pub use laws::{
     page_groups_have_each_row, page_paths_have_only_breaks, page_rows_are_by_file,
-    page_rows_count_all_results, page_rows_have_their_tags, page_texts_hold_no_markup,
+    page_rows_count_all_results, page_rows_have_their_attributes, page_rows_have_their_tags,
+    page_texts_hold_no_markup,
 };

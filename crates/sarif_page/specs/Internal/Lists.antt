@@ -1,4 +1,5 @@
 -- The lists of a page, as the contracts of the functions that write them see them.
+use Rattle.std.specs.Prelude.{option_map}
 use Rattle.sarif_page.specs.declared.html_lists.List.{List as Made}
 use Rattle.sarif_page.specs.declared.html_tables.Rows.{Rows}
 use Rattle.sarif_page.specs.HtmlGroups.{Part}
@@ -10,6 +11,7 @@ abbrev pub part_in : Made → Part
 part_in made = record {
   name = made.name.now;
   heading = made.heading.now;
+  link = option_map (λ link. link.now) made.link;
   room = made.room;
   number = made.number;
   rules = rules_in made.index.now.shown.items;
@@ -25,4 +27,5 @@ tables_in rows = record {
   all_others = rows.all_others;
   rules = rules_in rows.index.shown.items;
   all_rules = rows.index.all;
+  link = option_map (λ link. link.now) rows.link;
 }
