@@ -1,2 +1,1 @@
-pub mod Pairs
-pub mod RecordMembers
+pub mod AlikeMembers
