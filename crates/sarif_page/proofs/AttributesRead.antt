@@ -26,13 +26,13 @@ then_moves {a} {b} {word} {word'} {word''} {value} {value'} {value''} {first} {s
     λ rest. ap (attributes_from word value) (append_assoc a b rest) ∙ one (b ++ rest)
     ∙ ap (λ l. first ++ l) (two rest) ∙ sym (append_assoc first second (attributes_from word'' value'' rest))
 
-step : (text word : List ℕ) (value : Option (List ℕ)) (found : List Attribute) (word' : List ℕ) (value' : Option (List ℕ))
-    → Moves text word value found word' value' → Moves text word value found word' value'
-step text word value found word' value' moves = moves
-
 -- reading a string outside of an attribute adds these, after any word
 Reads : List ℕ → List Attribute → Type 0
 Reads text found = (word : List ℕ) → (word' : List ℕ) × Moves text word None found word' None
+
+reads_to : {text : List ℕ} {found : List Attribute} (word' : List ℕ) → ((word : List ℕ) → Moves text word None found word' None) → Reads text found
+unfolding Reads
+reads_to word' moves = λ word. (word', moves word)
 
 then_reads : {a b : List ℕ} {first second : List Attribute} → Reads a first → Reads b second → Reads (a ++ b) (first ++ second)
 unfolding Reads
@@ -70,54 +70,83 @@ within (b ∷ bs) word value h =
     ∙ later rest
     ∙ ap (λ l. attributes_from word (Some l) rest) (append_assoc value (b ∷ []) bs)
 
+-- ---- the data of a row
+
+level_begin : (word : List ℕ) → Moves (codes "<li data-level=\"") word None [] (codes "data-level=") (Some [])
+unfolding Moves
+level_begin word = λ rest. refl
+
+state_begin : (word value : List ℕ) → Moves (codes "\" data-state=\"") word (Some value) ((word, value) ∷ []) (codes "data-state=") (Some [])
+unfolding Moves
+state_begin word value = λ rest. refl
+
+hit_begin : (word value : List ℕ) → Moves (codes "\" data-hit=\"") word (Some value) ((word, value) ∷ []) (codes "data-hit=") (Some [])
+unfolding Moves
+hit_begin word value = λ rest. refl
+
+data_end : (word value : List ℕ) → Moves (codes "\">") word (Some value) ((word, value) ∷ []) (codes ">") None
+unfolding Moves
+data_end word value = λ rest. refl
+
 data_reads : (level state hit : List ℕ) → quotes_in level ≡ 0 → quotes_in state ≡ 0 → quotes_in hit ≡ 0
     → Reads (row_data level state hit) ((codes "data-level=", level) ∷ (codes "data-state=", state) ∷ (codes "data-hit=", hit) ∷ [])
-unfolding Reads Moves
-data_reads level state hit l s h = λ word. (
-  codes ">",
-  then_moves (step (codes "<li data-level=\"") word None [] (codes "data-level=") (Some []) (λ rest. refl))
-      (then_moves (within level (codes "data-level=") [] l)
-      (then_moves (step (codes "\" data-state=\"") (codes "data-level=") (Some level) ((codes "data-level=", level) ∷ []) (codes "data-state=") (Some []) (λ rest. refl))
-      (then_moves (within state (codes "data-state=") [] s)
-      (then_moves (step (codes "\" data-hit=\"") (codes "data-state=") (Some state) ((codes "data-state=", state) ∷ []) (codes "data-hit=") (Some []) (λ rest. refl))
-      (then_moves (within hit (codes "data-hit=") [] h)
-      (step (codes "\">") (codes "data-hit=") (Some hit) ((codes "data-hit=", hit) ∷ []) (codes ">") None (λ rest. refl))))))),
-)
+data_reads level state hit l s h = reads_to (codes ">") (λ word.
+    then_moves (level_begin word) (then_moves (within level (codes "data-level=") [] l)
+    (then_moves (state_begin (codes "data-level=") level) (then_moves (within state (codes "data-state=") [] s)
+    (then_moves (hit_begin (codes "data-state=") state) (then_moves (within hit (codes "data-hit=") [] h) (data_end (codes "data-hit=") hit)))))))
 
 front_reads : (f : Finding) → Reads (row_front f) (data_attributes f)
 unfolding row_front
 front_reads f =
     data_reads (level_name f.level) (state_name f.state) (hit_word f.hit) (level_none f.level).quoted (state_none f.state).quoted (hit_none f.hit).quoted
 
-title_moves : (name : Option (List ℕ)) → Moves (title_of name) [] None (title_attributes name) [] None
+-- ---- links
+
+title_begin : Moves (codes " title=\"") [] None [] (codes "title=") (Some [])
 unfolding Moves
-title_moves None = λ rest. refl
+title_begin = λ rest. refl
+
+quote_end : (word value : List ℕ) → Moves (codes "\"") word (Some value) ((word, value) ∷ []) [] None
+unfolding Moves
+quote_end word value = λ rest. refl
+
+no_title : Moves [] [] None [] [] None
+unfolding Moves
+no_title = λ rest. refl
+
+title_moves : (name : Option (List ℕ)) → Moves (title_of name) [] None (title_attributes name) [] None
+title_moves None = no_title
 title_moves (Some name) =
-    then_moves (step (codes " title=\"") [] None [] (codes "title=") (Some []) (λ rest. refl))
-    (then_moves (within (escaped Page name) (codes "title=") [] (escaped_none name).quoted)
-    (step (codes "\"") (codes "title=") (Some (escaped Page name)) ((codes "title=", escaped Page name) ∷ []) [] None (λ rest. refl)))
+    then_moves title_begin
+    (then_moves (within (escaped Page name) (codes "title=") [] (escaped_none name).quoted) (quote_end (codes "title=") (escaped Page name)))
+
+href_begin : (word : List ℕ) → Moves (codes "<a href=\"") word None [] (codes "href=") (Some [])
+unfolding Moves
+href_begin word = λ rest. refl
+
+rel_moves : Moves (codes " rel=\"noopener noreferrer\">") [] None ((codes "rel=", codes "noopener noreferrer") ∷ []) (codes ">") None
+unfolding Moves
+rel_moves = λ rest. refl
 
 begin_reads : (address : List ℕ) (name : Option (List ℕ)) → Reads (link_begin address name) (link_attributes (Some address) name)
-unfolding link_begin Reads Moves
-begin_reads address name = λ word. (
-  codes ">",
-  then_moves (step (codes "<a href=\"") word None [] (codes "href=") (Some []) (λ rest. refl))
-      (then_moves (within (escaped Page address) (codes "href=") [] (escaped_none address).quoted)
-      (then_moves (step (codes "\"") (codes "href=") (Some (escaped Page address)) ((codes "href=", escaped Page address) ∷ []) [] None (λ rest. refl))
-      (then_moves (title_moves name)
-      (step (codes " rel=\"noopener noreferrer\">") [] None ((codes "rel=", codes "noopener noreferrer") ∷ []) (codes ">") None (λ rest. refl))))),
-)
+unfolding link_begin
+begin_reads address name = reads_to (codes ">") (λ word.
+    then_moves (href_begin word) (then_moves (within (escaped Page address) (codes "href=") [] (escaped_none address).quoted)
+    (then_moves (quote_end (codes "href=") (escaped Page address)) (then_moves (title_moves name) rel_moves))))
 
 in_link : {text : List ℕ} {found : List Attribute} (address : List ℕ) (name : Option (List ℕ)) → Reads text found
     → Reads (link_begin address name ++ (text ++ codes "</a>")) (link_attributes (Some address) name ++ (found ++ []))
 in_link address name reads = then_reads (begin_reads address name) (then_reads reads (outside (codes "</a>") refl))
 
+-- ---- the parts of a row
+
+class_begin : (word : List ℕ) → Moves (codes "<code class=\"all\"><i>") word None ((codes "class=", codes "all") ∷ []) (codes "i>") None
+unfolding Moves
+class_begin word = λ rest. refl
+
 class_reads : (text : List ℕ) → quotes_in text ≡ 0
     → Reads (codes "<code class=\"all\"><i>" ++ (text ++ codes "</i></code>")) ((codes "class=", codes "all") ∷ [])
-unfolding Reads Moves
-class_reads text h = λ word.
-    let later = then_reads (outside text h) (outside (codes "</i></code>") refl) (codes "><i>") in
-    (later.0, λ rest. ap (λ l. (codes "class=", codes "all") ∷ l) (later.1 rest))
+class_reads text h = then_reads (reads_to (codes "i>") class_begin) (then_reads (outside text h) (outside (codes "</i></code>") refl))
 
 path_reads : (path : Option (List ℕ)) (line column : Option ℕ) → Reads (place_of path line column) (path_attributes path line)
 path_reads None line column = outside (codes "<code>-</code>") refl

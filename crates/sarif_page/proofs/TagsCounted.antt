@@ -27,8 +27,8 @@ use Rattle.sarif_shown.proofs.EscapedApart.{page_apart, page_chars}
 
 -- the string has this many tags and quotes
 pub record Marks (tags quotes : ℕ) (text : List ℕ) : Type 0 where
-  tagged : tags_in text ≡ tags
-  quoted : quotes_in text ≡ quotes
+  pub tagged : tags_in text ≡ tags
+  pub quoted : quotes_in text ≡ quotes
 
 fixed : (text : List ℕ) (m n : ℕ) → tags_in text ≡ m → quotes_in text ≡ n → Marks m n text
 fixed text m n e f = record { tagged = e; quoted = f }

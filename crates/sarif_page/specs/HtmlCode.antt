@@ -1,5 +1,5 @@
 -- The code of a row, escaped. Its lines may have two `#` next to each other, so each `#` is written by its number.
-use Rattle.std.specs.Prelude.{ℕ, Bool, true, false, List, [], ◌∷◌, ◌++◌, ◌==◌, Option, Some, None, chars, codes, flat_map, if◌then◌else◌}
+use Rattle.std.specs.Prelude.{ℕ, Bool, true, false, List, [], ◌++◌, ◌==◌, Option, Some, None, chars, codes, flat_map, if◌then◌else◌}
 use Rattle.std.specs.List.{enumerate_from}
 use Rattle.sarif_findings.specs.declared.code.Code.{Code}
 use Rattle.sarif_findings.specs.CodeRows.{has_mark, row_of}
