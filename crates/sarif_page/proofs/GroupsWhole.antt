@@ -1,7 +1,6 @@
 -- The groups of a list have its rows, file by file: each group has some rows of one file, and no more than a group may have.
-use Rattle.std.proofs.Common.{◌≡◌, ◌≤◌, ◌+◌, ◌&&◌, ℕ, zero, suc, Bool, true, false, List, [], ◌∷◌, ◌++◌, length, take, drop, flat_map, bytes_eq, refl, sym, ap, ◌∙◌, arith}
-use Rattle.std.specs.List.{filter, list_all, count_by}
-use Rattle.std.proofs.lemmas.Bool.{and_parts, and_from}
+use Rattle.std.proofs.Common.{◌≡◌, ◌≤◌, ◌+◌, ℕ, zero, suc, Bool, List, [], ◌∷◌, ◌++◌, length, take, drop, flat_map, refl, ap, ◌∙◌, arith}
+use Rattle.std.specs.List.{filter, count_by}
 use Rattle.std.proofs.lemmas.Grind.{flat_map-append}
 use Rattle.std.proofs.lemmas.List.{take-append-drop, length-drop}
 use Rattle.sarif_findings.specs.declared.finding.Finding.{Finding}

@@ -1,7 +1,7 @@
 -- The tags and the quotes of a page's rows.
 use Rattle.std.proofs.Common.{◌≡◌, ◌+◌, ◌==◌, ◌++◌, ℕ, Bool, true, false, not, ◌&&◌, ◌||◌, cond, List, [], ◌∷◌, Option, Some, None, codes, chars, flat_map, append-nil, if◌then◌else◌, refl, sym, ap, ap₂, ◌∙◌, arith}
 use Rattle.std.specs.Fmt.{decimal}
-use Rattle.std.specs.List.{sum_by, count_by, enumerate_from}
+use Rattle.std.specs.List.{sum_by, enumerate_from}
 use Rattle.std.proofs.lemmas.Bool.{and_parts, or_parts, not-true}
 use Rattle.std.proofs.lemmas.List.Sums.{sum_by-append, sum_by-cons}
 use Rattle.sarif_model.specs.declared.kinds.Level.{Level}
@@ -18,7 +18,7 @@ use Rattle.sarif_shown.specs.Linked.{place_link}
 use Rattle.sarif_shown.specs.Escaped.{escaped, page_char}
 use Rattle.sarif_shown.specs.EscapedLaws.{is_element_text, is_markup, begins_entity}
 use Rattle.sarif_findings.specs.Finding.{numbered, place_path}
-use Rattle.sarif_page.specs.HtmlBreaks.{break_if, broken, broken_after, broken_char, breaks_after, breaks_in, ends_part, is_capital, is_small}
+use Rattle.sarif_page.specs.HtmlBreaks.{break_if, broken, broken_after, breaks_after, breaks_in, ends_part, is_capital, is_small}
 use Rattle.sarif_page.specs.HtmlCode.{code_cell, code_html, code_line, code_text, marked_if}
 use Rattle.sarif_page.specs.HtmlRow.{hit_word, row_data, row_front, spot_in, place_of, linked_place, place_cell, message_cells, title_of, link_begin, rule_code, rule_cell, tool_cells, result_row, rows_html, linked}
 use Rattle.sarif_page.specs.HtmlLaws.{tags_in, quotes_in, link_tags, title_quotes, link_quotes, rule_tags, rule_quotes, path_tags, path_quotes, place_tags, place_quotes, mark_tags, code_tags, row_tags, row_quotes, begins_sign, is_code_text}

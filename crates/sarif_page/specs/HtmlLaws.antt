@@ -1,5 +1,5 @@
 -- Properties of the rows of a page, for any strings of a log.
-use Rattle.std.specs.Prelude.{◌≤◌, ℕ, ◌+◌, Bool, true, false, not, ◌&&◌, ◌||◌, ◌==◌, nat_eq, List, [], ◌∷◌, Option, Some, None, codes, if◌then◌else◌}
+use Rattle.std.specs.Prelude.{ℕ, ◌+◌, Bool, true, false, not, ◌&&◌, ◌||◌, ◌==◌, nat_eq, List, [], ◌∷◌, Option, Some, None, codes, if◌then◌else◌}
 use Rattle.std.specs.List.{count_by, enumerate_from, list_all, list_any, starts_with, sum_by}
 use Rattle.sarif_findings.specs.declared.code.Code.{Code}
 use Rattle.sarif_findings.specs.declared.finding.Finding.{Finding}
@@ -7,7 +7,7 @@ use Rattle.sarif_findings.specs.CodeRows.{has_mark}
 use Rattle.sarif_shown.specs.EscapedLaws.{is_markup, begins_entity}
 use Rattle.sarif_shown.specs.Linked.{place_link}
 use Rattle.sarif_page.specs.HtmlBreaks.{breaks_in}
-use Rattle.sarif_page.specs.HtmlRows.{Group, file_of, is_in}
+use Rattle.sarif_page.specs.HtmlRows.{file_of, is_in}
 
 -- the number of tags in it: each begins with `<`
 abbrev pub tags_in : List ℕ → ℕ
