@@ -139,7 +139,7 @@ pub fn merge_bytes<G: Gate + Sync, R: Threads + Wait + Sync>(
     ensures gate { let inputs = inputs_of sources.now options.now in
         IfOk result (HasGate (runs_written inputs) options.now.policy (without_of inputs)
         (unused_in inputs)) }
-    // So many of the unused entries are expired.
+    // The number of unused entries that are expired is counted.
     ensures expired { IfOk result
         (λ merged. merged.expired ≡ expired_in (inputs_of sources.now options.now)) }
     // The merge has no findings.
