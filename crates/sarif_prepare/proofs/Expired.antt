@@ -1,5 +1,5 @@
 -- An expired entry matches no result.
-use Rattle.std.proofs.Common.{◌≡◌, Bool, true, false, List, [], ◌∷◌, refl, ap}
+use Rattle.std.proofs.Common.{◌≡◌, Bool, true, false, List, [], ◌∷◌, refl, sym, ap}
 use Rattle.std.specs.Prelude.{not, ◌&&◌, count_by}
 use Rattle.std.specs.List.{list_any}
 use Rattle.sarif_entries.specs.File.{File}
@@ -23,4 +23,4 @@ unused_too false meets rs = never (not (list_any (λ r. not false && meets r) rs
 
 -- so these are all that are expired
 pub all_expired : (file : File) (rs : List Record) → count_by (λ e. is_expired file.today e) file.entries ≡ expired_of file rs
-all_expired file rs = λ i. count_by (λ e. unused_too (is_expired file.today e) (hold e.conditions) rs (~ i)) file.entries
+all_expired file rs = sym (λ i. count_by (λ e. unused_too (is_expired file.today e) (hold e.conditions) rs i) file.entries)

@@ -20,26 +20,20 @@ pub(crate) fn lines_with(
 {
     let mut lines = lines_of(alloc, facts.life)?;
     if request.explain {
-        push_happened(alloc, &mut lines, facts.without, facts.unused, facts.expired)?;
+        push_happened(alloc, &mut lines, facts)?;
     }
     Text::from_string(lines)
 }
 
 /// Adds a line on runs without results, one on unused entries and one on those of them that are expired, each if there
 /// are any.
-fn push_happened(
-    alloc: Global,
-    lines: &mut String,
-    without: u32,
-    unused: u32,
-    expired: u32,
-) -> Result<(), AllocError>
-    ensures { OnOk result (string_bytes lines.new
-        ≡ string_bytes lines.old ++ said.happened without unused expired) }
+fn push_happened(alloc: Global, lines: &mut String, facts: &Facts<'_>) -> Result<(), AllocError>
+    ensures { OnOk result (string_bytes lines.new ≡ string_bytes lines.old
+        ++ said.happened facts.now.without facts.now.unused facts.now.expired) }
 {
-    lines.push_str(runs_line(alloc, without)?.as_str())?;
-    lines.push_str(entries_line(alloc, unused)?.as_str())?;
-    lines.push_str(expired_line(alloc, expired)?.as_str())?;
+    lines.push_str(runs_line(alloc, facts.without)?.as_str())?;
+    lines.push_str(entries_line(alloc, facts.unused)?.as_str())?;
+    lines.push_str(expired_line(alloc, facts.expired)?.as_str())?;
     Ok(())
 }
 
