@@ -23,7 +23,8 @@ use Rattle.sarif_log.specs.LogBy.{partner_in, states_from, states_of, taken_of}
 use Rattle.sarif_laws.proofs.Arranged.{itself, all_arranged, apart_arranged, arranged, AreApart, Fits, fits_long, of_tagged, of_tool, same_of_tool, untag, untagged}
 use Rattle.sarif_laws.proofs.Keyed.{numbered, tool_of}
 use Rattle.sarif_laws.proofs.Matched.{all_get, all_have, all_long, all_own, IsOwn, some_of, taken_is}
-use Rattle.sarif_laws.proofs.Ranked.{filter_swap, get_front}
+use Rattle.sarif_match_laws.proofs.Keyed.{filter_swap}
+use Rattle.sarif_laws.proofs.Ranked.{get_front}
 use Rattle.sarif_laws.proofs.Tiered.{has_tier, not_empty}
 
 -- ---- numbered lists

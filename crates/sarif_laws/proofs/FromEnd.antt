@@ -22,7 +22,8 @@ use Rattle.sarif_laws.proofs.Adopted.{all_unchanged, apart_numbered, at_numbered
 use Rattle.sarif_laws.proofs.Arranged.{all_arranged, apart_arranged, arranged, AreApart, Fits, of_tagged, of_tool, same_of_tool, untag, untagged}
 use Rattle.sarif_laws.proofs.Keyed.{numbered, tool_of}
 use Rattle.sarif_laws.proofs.Matched.{all_get, all_have, all_long, all_own, IsOwn, some_of, taken_is}
-use Rattle.sarif_laws.proofs.Ranked.{filter_swap, get_front}
+use Rattle.sarif_match_laws.proofs.Keyed.{filter_swap}
+use Rattle.sarif_laws.proofs.Ranked.{get_front}
 use Rattle.sarif_laws.proofs.Tiered.{has_finer_tier}
 
 -- ---- lists in reverse order

@@ -19,8 +19,9 @@ use Rattle.sarif_match.proofs.FitsLemmas.{Fits-pairs_at}
 use Rattle.sarif_match.proofs.PartsLemmas.{parts_refl}
 use Rattle.sarif_match.proofs.PutLemmas.{has_partner-put, slice_index_or-slice_set}
 use Rattle.sarif_laws.proofs.Arranged.{AreApart, of_tagged, untag}
-use Rattle.sarif_laws.proofs.Keyed.{keyed_first, keys_of_tool, numbered, numbered_keyed, tag_keyed, tool_in, tool_of}
-use Rattle.sarif_laws.proofs.Ranked.{ArePairs, AreRanked, filter_swap, get_front, pairs_own, zip_filter}
+use Rattle.sarif_laws.proofs.Keyed.{keyed_first, keys_of_tool, numbered, numbered_keyed, tag_keyed, tool_of}
+use Rattle.sarif_match_laws.proofs.Keyed.{filter_swap, tool_in}
+use Rattle.sarif_laws.proofs.Ranked.{ArePairs, AreRanked, get_front, pairs_own, zip_filter}
 use Rattle.sarif_laws.proofs.Tiered.{IsIn}
 
 -- ---- by places

@@ -14,19 +14,6 @@ get_front [] ys n x is = let never : ⊥ = cc in absurd never
 get_front (y ∷ xs) ys zero x is = is
 get_front (y ∷ xs) ys (suc n) x is = get_front xs ys n x is
 
-pub filter_swap : {X : Type 0} (p q : X → Bool) (xs : List X) → filter p (filter q xs) ≡ filter q (filter p xs)
-filter_swap p q [] = refl
-filter_swap p q (x ∷ xs) = by_tests (p x) (q x) refl refl (filter_swap p q xs)
-  where
-    by_tests : (a b : Bool) → p x ≡ a → q x ≡ b → filter p (filter q xs) ≡ filter q (filter p xs)
-        → filter p (cond b (x ∷ filter q xs) (filter q xs)) ≡ filter q (cond a (x ∷ filter p xs) (filter p xs))
-    by_tests true true first second rest =
-        ap (λ c. cond c (x ∷ filter p (filter q xs)) (filter p (filter q xs))) first ∙ ap (λ l. x ∷ l) rest
-        ∙ sym (ap (λ c. cond c (x ∷ filter q (filter p xs)) (filter q (filter p xs))) second)
-    by_tests true false first second rest = rest ∙ sym (ap (λ c. cond c (x ∷ filter q (filter p xs)) (filter q (filter p xs))) second)
-    by_tests false true first second rest = ap (λ c. cond c (x ∷ filter p (filter q xs)) (filter p (filter q xs))) first ∙ rest
-    by_tests false false first second rest = rest
-
 module _ {E : Type 0} {F : Type 0} (R : E → F → Type 0) where
   pub zip_filter : (p : E → Bool) (q : F → Bool) → ((e : E) (f : F) → R e f → p e ≡ q f) → (es : List E) (fs : List F) → AllZip R es fs
       → AllZip R (filter p es) (filter q fs)

@@ -23,14 +23,13 @@ fn are_plain(bytes: &[u8]) -> bool
 }
 
 /// Adds a byte of a path.
-fn push_byte(text: &mut String, byte: u8) -> Result<(), AllocError>
-    ensures {
-        OnOk result (string_bytes text.new ≡ string_bytes text.old ++ said.encoded_byte byte) }
+fn push_byte(to: &mut String, byte: u8) -> Result<(), AllocError>
+    ensures { OnOk result (string_bytes to.new ≡ string_bytes to.old ++ said.encoded_byte byte) }
 {
     if is_plain(byte) {
-        text.push(byte as char)?;
+        to.push(byte as char)?;
     } else {
-        text.push_str(percent_encode_byte(byte))?;
+        to.push_str(percent_encode_byte(byte))?;
     }
     Ok(())
 }

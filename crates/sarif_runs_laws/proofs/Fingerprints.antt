@@ -13,7 +13,8 @@ use Rattle.sarif_members.specs.Fingerprints.{Pair, pairs_among, pairs_at, pairs_
 use Rattle.sarif_read.proofs.WholeRuns.{bind_ok}
 use Rattle.sarif_runs.specs.Ignoring.{is_among, without_names}
 use Rattle.sarif_runs_laws.specs.Ignoring.{each_without, is_map, map_without, members_without, result_without, value_without}
-use Rattle.sarif_runs_laws.proofs.Members.{AreAlikeBeside, HasFingerprints}
+use Rattle.sarif_members.proofs.AlikeMembers.{AreAlikeBeside}
+use Rattle.sarif_runs_laws.proofs.Members.{HasFingerprints}
 
 module _ (names : List (List ℕ)) where
   -- ---- members of a result

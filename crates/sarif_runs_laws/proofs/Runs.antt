@@ -38,7 +38,8 @@ use Rattle.sarif_runs.proofs.NoneNamed.{none_named}
 use Rattle.sarif_runs.proofs.Unmarked.{head_only, tool_only}
 use Rattle.sarif_runs_laws.specs.Ignoring.{AreReadWithout, ignoring, result_without, run_without, without_ignored}
 use Rattle.sarif_runs_laws.proofs.Fingerprints.{alike_beside, fingerprints_without}
-use Rattle.sarif_runs_laws.proofs.Members.{absent_same, fingerprints_read, parts_fewer, parts_without}
+use Rattle.sarif_members.proofs.AlikeMembers.{absent_same}
+use Rattle.sarif_runs_laws.proofs.Members.{fingerprints_read, parts_fewer, parts_without}
 
 -- ---- lists
 
