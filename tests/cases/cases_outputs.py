@@ -471,7 +471,7 @@ FORMS = [
 
 
 def happened():
-    """What is said of an accepted merge: its runs without results, and the entries that match nothing."""
+    """What is said of an accepted merge: its runs without results, the entries that match nothing, and the expired ones."""
     without = {"tool": {"driver": {"name": "lint"}}}
     runs = "sarif_gate: 2 runs without results: nothing is known of what they looked for.\n"
     entries = "sarif_gate: 3 suppression entries match nothing.\n"
@@ -488,8 +488,37 @@ def happened():
     told = (runs + "sarif_gate: 1 suppression entry matches nothing.\n").encode()
     yield one("one run and one entry", ["--explain", *words], group="explain", files=one_of_each, stderr=told)
     yield one("nothing happened", ["--explain", "--out", "o", "a"], group="explain", stderr=b"")
-    bad = {"a": log(without, run("lint", plain(correlationGuid="x"))), "s": rules({"ruleId": "A"})}
+    yield from expired_entries(runs=log(without, without), words=words)
+    bad = {"a": log(without, run("lint", plain(correlationGuid="x"))), "s": rules(PAST, version=2)}
+    words = [*words, "--today", "20250201"]
     yield explained("nothing of a rejected merge", bad, "log 0, run 1, result 0: BadGuid", words)
+
+
+# An entry that expired on 2025-02-01, and would match a result of lint before.
+PAST = {"tool": "lint", "expires": 20250131}
+
+
+def expired_entries(runs, words):
+    """What is said of the expired entries of a file, on 2025-02-01 or on the last day of an entry."""
+
+    def told(name, entries, *lines, log=None, day="20250201", explain=("--explain",)):
+        files = {"s": rules(*entries, version=2)} | ({"a": log} if log else {})
+        wanted = "".join(f"sarif_gate: {it}\n" for it in lines).encode()
+        return one(name, [*explain, "--today", day, *words], group="explain", files=files, stderr=wanted)
+
+    unmatched = {"ruleId": "A"}
+    without = "2 runs without results: nothing is known of what they looked for."
+    three = "3 suppression entries match nothing."
+    given = [unmatched, PAST, unmatched]
+    yield told("one expired entry of three", given, without, three, "1 suppression entry has expired.", log=runs)
+    yield told("the same, without explanations", given, log=runs, explain=())
+    given = [PAST, unmatched, PAST]
+    yield told("two expired entries of three", given, without, three, "2 suppression entries have expired.", log=runs)
+    alone = "1 suppression entry matches nothing.", "1 suppression entry has expired."
+    yield told("an expired entry matches nothing", [PAST], *alone)
+    yield told("an entry on its last day", [PAST], day="20250131")
+    yield told("an unused entry on its last day", [{**PAST, "ruleId": "A"}], alone[0], day="20250131")
+    yield told("a used entry beside an expired one", [{"tool": "lint"}, PAST], *alone)
 
 
 def explanations():

@@ -13,7 +13,7 @@ import sys
 from reference_arguments import NoArguments, Unread, replaced
 from reference_entries import read_rules
 from reference_json import Fault, compact, read_json, stripped
-from reference_life import Known, PastLimit, Renewed, failed, file_of, unused
+from reference_life import Known, PastLimit, Renewed, failed, file_of, happened, unused
 from reference_matching import has_evidence, partners, region_and_snippet, state
 from reference_members import KINDS, LEVELS, STATES, STATUSES, guid, index, objects, of_kind, one_of, texts
 
@@ -428,7 +428,8 @@ def check_number(logs, baselines):
 USAGE = """Usage: sarif_gate [--baseline F]... [--suppress F] [--today N] [--workers N]
     [--fail-on L] [--states LIST] [--max N] [--suppress-out F] [--accept] [--prune]
     [--reason TEXT] [--until N] [--unused F] [--known F] [--adopt] [--require-success]
-    [--allow-external-properties] [--matching N] [--ignore-fingerprint NAME]... --out F LOG... [@FILE]...
+    [--allow-external-properties] [--matching N] [--ignore-fingerprint NAME]... [--explain] --out F
+    LOG... [@FILE]...
 """
 
 
@@ -442,7 +443,7 @@ class Usage(Exception):
 
 RANGES = {"today": (10000101, 99991231), "workers": (1, 64), "max": (0, 2**32 - 1), "matching": (2, 3)}
 VALUES = ("suppress", "out", "fail-on", "states", "suppress-out", "reason", "until", "unused", "known")
-FLAGS = ("accept", "prune", "adopt", "require-success", "allow-external-properties")
+FLAGS = ("accept", "prune", "adopt", "explain", "require-success", "allow-external-properties")
 # Only their names count here: reference_reports.py makes the reports.
 REPORTS = ("text", "github", "markdown", "gitlab", "html", "junit", "azure")
 
@@ -662,6 +663,8 @@ class Outputs:
             raise Refused(past.place, past.cause) from None
         if "unused" in given:
             self.files.append(("unused report", given["unused"], unused(merge)))
+        if "explain" in given:
+            self.lines += happened(merge)
 
     def add(self, place, name, made):
         self.files.append((place, name, made.text))

@@ -139,6 +139,19 @@ def unused(merge):
     return "".join(lines)
 
 
+def happened(merge):
+    """Lines on runs without results, on unused entries and on the expired ones of these, each if there are any."""
+    expired = sum(it.is_expired for number, it in enumerate(merge.entries) if number not in merge.used)
+    one_run = "run without results: nothing is known of what it looked for."
+    more_runs = "runs without results: nothing is known of what they looked for."
+    said = (
+        (merge.without, one_run, more_runs),
+        (merge.unused, "suppression entry matches nothing.", "suppression entries match nothing."),
+        (expired, "suppression entry has expired.", "suppression entries have expired."),
+    )
+    return [f"sarif_gate: {n} {one if n == 1 else more}\n" for n, one, more in said if n]
+
+
 # ---- What is known
 
 

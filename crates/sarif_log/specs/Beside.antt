@@ -10,6 +10,7 @@ pub record AreFactsOf (merged : Merged) (facts : Facts) : Type 0 where
   pub counts : facts.counts.now ≡ merged.counts
   pub without : facts.without ≡ merged.without
   pub unused : facts.unused ≡ merged.unused
+  pub expired : facts.expired ≡ merged.expired
   pub findings : facts.findings.now ≡ merged.findings
   pub life : facts.life.now ≡ merged.life
 

@@ -1,5 +1,5 @@
 -- The merged log of runs that were read, and of a suppression file (SARIF 2.1.0, "sarifLog object").
-use Rattle.std.specs.Prelude.{ℕ, ◌+◌, Bool, not, List, [], ◌∷◌, ◌++◌, map, length, count_by, is_some, slice_get, slice_index_or, Option, None, option_and_then}
+use Rattle.std.specs.Prelude.{ℕ, ◌+◌, Bool, not, ◌&&◌, List, [], ◌∷◌, ◌++◌, map, length, count_by, is_some, slice_get, slice_index_or, Option, None, option_and_then}
 use Rattle.std.specs.List.{range_with_len}
 use Rattle.serde_json.specs.Data.{Data}
 use Rattle.sarif_model.specs.declared.kinds.State.{State}
@@ -9,7 +9,8 @@ use Rattle.sarif_match.specs.declared.version.MatchingVersion.{MatchingVersion}
 use Rattle.sarif_match.specs.Evidence.{state_in}
 use Rattle.sarif_match.specs.Partners.{partners_in, is_taken}
 use Rattle.sarif_entries.specs.File.{File}
-use Rattle.sarif_suppress.specs.Suppressing.{unused_of}
+use Rattle.sarif_entries.specs.Matching.{is_expired}
+use Rattle.sarif_suppress.specs.Suppressing.{is_unused, unused_of}
 use Rattle.sarif_suppress.specs.Written.{suppressions_of}
 use Rattle.sarif_options.specs.declared.policy.Policy.{Policy}
 use Rattle.sarif_counts.specs.CountOf.{count_of}
@@ -68,6 +69,11 @@ runs_by version file current baseline =
 -- how many of the runs have no results
 abbrev pub runs_without_results : List Data → ℕ
 runs_without_results runs = count_by (λ run. not (is_some (results_array run))) runs
+
+-- how many of the entries that match none of the results are expired
+abbrev pub expired_of : File → List Record → ℕ
+expired_of file rs =
+    count_by (λ e. is_unused file rs e && is_expired file.today e) file.entries
 
 -- its gate counts the results in its runs
 abbrev pub log_by : List Data → Policy → ℕ → ℕ → Data

@@ -47,6 +47,7 @@ pub fn assemble<
         (places : Option (List CopyPlace)) (bare idle : ℕ) (asked : Option Reporting)
         → IsPreparedAs runs counted places bare idle asked prepared
         → IsMergedAs runs counted places options.now.policy bare idle asked made.0) }
+    ensures expired { IfOk result (λ made. made.0.expired ≡ prepared.expired) }
     ensures life { IfOk result (λ made. made.0.life ≡ prepared.life) }
     ensures told { IfOk result (λ made. IsMadeBy Tell.FnOnce tell made.0 (Ok made.1)) }
 {
@@ -56,6 +57,7 @@ pub fn assemble<
             (places : Option (List CopyPlace)) (bare idle : ℕ) (asked : Option Reporting)
             → IsPreparedAs runs counted places bare idle asked prepared
             → IsMergedAs runs counted places options.entry.now.policy bare idle asked made.0) }
+        ensures expired { IfOk result (λ made. made.0.expired ≡ prepared.expired) }
         ensures life { IfOk result (λ made. made.0.life ≡ prepared.life) }
         ensures told { IfOk result (λ made. IsMadeBy Tell.FnOnce tell made.0 (Ok made.1)) }
     { write_log(rt, alloc, prepared, options, tell) };

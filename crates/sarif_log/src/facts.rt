@@ -11,6 +11,8 @@ pub struct Facts<'m> {
     pub without: u32,
     /// How many entries of the suppression file match no current result.
     pub unused: u32,
+    /// How many of these are expired.
+    pub expired: u32,
     /// The findings of the results, in the order of the log; empty if none were requested.
     pub findings: &'m Vec<Finding>,
     /// What is for later merges.

@@ -16,6 +16,8 @@ pub struct Merged {
     pub without: u32,
     /// How many entries of the suppression file match no current result.
     pub unused: u32,
+    /// How many of these are expired.
+    pub expired: u32,
     /// The findings of its results, in the order of the log; empty if none were requested.
     pub findings: Vec<Finding>,
     /// What is for later merges.

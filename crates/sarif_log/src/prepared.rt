@@ -38,6 +38,8 @@ pub struct Prepared {
     pub without: u32,
     /// How many entries of the suppression file match no current result.
     pub unused: u32,
+    /// How many of these are expired.
+    pub expired: u32,
     /// The findings of its results, in order.
     pub findings: Vec<Finding>,
     /// What is for later merges.

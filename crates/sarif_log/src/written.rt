@@ -129,6 +129,7 @@ pub(crate) fn write_log<
         → IsLogWith runs counted
         (places_by prepared.copies prepared.current prepared.baseline)
         options.now.policy prepared.without prepared.unused made.0) }
+    ensures expired { IfOk result (λ made. made.0.expired ≡ prepared.expired) }
     ensures findings { IfOk result (λ made. made.0.findings.items ≡ prepared.findings.items) }
     ensures life { IfOk result (λ made. made.0.life ≡ prepared.life) }
     ensures told { IfOk result (λ made. IsMadeBy Tell.FnOnce tell made.0 (Ok made.1)) }
@@ -140,6 +141,7 @@ pub(crate) fn write_log<
         baseline,
         without,
         unused,
+        expired,
         findings,
         life,
         spent,
@@ -149,6 +151,7 @@ pub(crate) fn write_log<
         counts: &counts,
         without,
         unused,
+        expired,
         findings: &findings,
         life: &life,
     };
@@ -166,6 +169,7 @@ pub(crate) fn write_log<
         verdict,
         without,
         unused,
+        expired,
         findings,
         life,
     };

@@ -65,8 +65,9 @@ pub assembled_is : (inputs : Inputs) (policy : Policy) (asked : Option Reporting
     → IsPreparedFor inputs policy asked upkeep prepared
     → ((v : MatchingVersion) (file : File) (now before : List Placed) (told : Option Reporting) → IsPrepared v file now before told prepared
     → IsMergedBy v file now before policy told merged)
+    → merged.expired ≡ prepared.expired
     → IsMerged inputs policy asked merged
-assembled_is inputs policy asked upkeep prepared merged ready assembled =
+assembled_is inputs policy asked upkeep prepared merged ready assembled past =
     let entries = file_in (file_or_none inputs.suppressions inputs.today) in
     let logs = placed (numbered inputs.checks Log 0 inputs.logs) in
     let baselines = placed (numbered inputs.checks Baseline 0 inputs.baselines) in
@@ -80,6 +81,7 @@ assembled_is inputs policy asked upkeep prepared merged ready assembled =
       );
       log = made.written.log;
       gate = made.written.gate;
+      expired = past ∙ ready.written.expired;
       told = made.told;
     }
 

@@ -280,10 +280,10 @@ rejected_life m bytes file now before fault read logs baselines is unkept =
 pub is_merge_of : (m : Merging) (prepared : Prepared) (merged : Merged) → IsReady m prepared
     → ((v : MatchingVersion) (file : File) (now before : List Placed) (told : Option Reporting) → IsPrepared v file now before told prepared
     → IsMergedBy v file now before (policy_in m) told merged)
-    → merged.life ≡ prepared.life → IsMergeOf m merged
+    → merged.expired ≡ prepared.expired → merged.life ≡ prepared.life → IsMergeOf m merged
 unfolding IsReady IsMergeOf
-is_merge_of m prepared merged ready assembled same = (
-  assembled_is (inputs_in m) (policy_in m) (reporting_in m.asked.now) (upkeep_in m.asked.now) prepared merged ready assembled,
+is_merge_of m prepared merged ready assembled past same = (
+  assembled_is (inputs_in m) (policy_in m) (reporting_in m.asked.now) (upkeep_in m.asked.now) prepared merged ready assembled past,
   subst (IsLifeOf (inputs_in m) (policy_in m) (upkeep_in m.asked.now)) (sym same) ready.kept,
 )
 

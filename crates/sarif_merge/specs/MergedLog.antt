@@ -8,7 +8,7 @@ use Rattle.sarif_suppress.specs.Suppressing.{unused_of}
 use Rattle.sarif_entries.specs.declared.fault.FileFault.{FileFault}
 use Rattle.sarif_options.specs.declared.policy.Policy.{Policy}
 use Rattle.sarif_runs.specs.Judging.{records_of, run_values}
-use Rattle.sarif_log.specs.LogBy.{current_runs, merged_by, runs_by, runs_without_results}
+use Rattle.sarif_log.specs.LogBy.{current_runs, expired_of, merged_by, runs_by, runs_without_results}
 use Rattle.sarif_entries.specs.Given.{file_or_none}
 use Rattle.sarif_inputs.specs.Inputs.{Inputs, input_runs, baseline_runs}
 
@@ -41,6 +41,10 @@ without_of inputs = runs_without_results (run_values (input_runs inputs))
 -- how many entries of the suppression file match no current result
 abbrev pub unused_in : Inputs → ℕ
 unused_in inputs = unused_of (file_given inputs) (current_of inputs)
+
+-- how many of these are expired
+abbrev pub expired_in : Inputs → ℕ
+expired_in inputs = expired_of (file_given inputs) (current_of inputs)
 
 abbrev pub merged_log : Inputs → Policy → Data
 merged_log inputs policy =

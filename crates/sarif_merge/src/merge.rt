@@ -9,7 +9,7 @@ ghost use Rattle.sarif_inputs.specs.Faults.{faults_of, first_fault};
 ghost use Rattle.sarif_merge.specs.Given.{inputs_of};
 ghost use Rattle.sarif_merge.specs.Life.{IsLifeOf, IsRefusal, no_life};
 ghost use Rattle.sarif_merge.specs.Merged.{HoldsFirst, IsMerged};
-ghost use Rattle.sarif_merge.specs.MergedLog.{output_text, runs_written, without_of, unused_in, written_inputs};
+ghost use Rattle.sarif_merge.specs.MergedLog.{expired_in, output_text, runs_written, without_of, unused_in, written_inputs};
 ghost use Rattle.sarif_merge.specs.Internal.Steps.{AreBaselinesOpened, AreLogsOpened, IsFileIn, IsReady, IsRejection};
 ghost use Rattle.sarif_model.specs.Limits.{most_sources};
 
@@ -139,6 +139,9 @@ pub fn merge_bytes<G: Gate + Sync, R: Threads + Wait + Sync>(
     ensures gate { let inputs = inputs_of sources.now options.now in
         IfOk result (HasGate (runs_written inputs) options.now.policy (without_of inputs)
         (unused_in inputs)) }
+    // The number of unused entries that are expired is counted.
+    ensures expired { IfOk result
+        (λ merged. merged.expired ≡ expired_in (inputs_of sources.now options.now)) }
     // The merge has no findings.
     ensures untold { IfOk result (λ merged. merged.findings.items ≡ []) }
     // Nothing is for later merges.

@@ -75,5 +75,6 @@ fn without_runs_the_log_holds_its_gate(rt: HostRuntime) -> Result<(), Fail> {
     assert_eq!(rt; merged.counts.get(State::New, Level::Error, false), 0);
     assert_eq!(rt; merged.without, 0);
     assert_eq!(rt; merged.unused, 0);
+    assert_eq!(rt; merged.expired, 0);
     Ok(())
 }

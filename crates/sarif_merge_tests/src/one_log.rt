@@ -30,6 +30,7 @@ fn assert_is_warning(rt: &impl Abort, merged: &Merged) {
     assert_eq!(rt; merged.verdict, Verdict::Pass);
     assert_eq!(rt; merged.without, 0);
     assert_eq!(rt; merged.unused, 0);
+    assert_eq!(rt; merged.expired, 0);
 }
 
 #[test]

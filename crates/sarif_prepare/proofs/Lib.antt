@@ -1,4 +1,5 @@
 pub mod BaselineSpots
+pub mod Expired
 pub mod FoundDrafts
 pub mod KeptSides
 pub mod LeftTexts

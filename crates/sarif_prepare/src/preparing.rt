@@ -10,7 +10,7 @@ ghost use Rattle.sarif_runs.specs.Internal.Opened.{placed_of};
 ghost use Rattle.sarif_runs.specs.Placed.{Placed};
 ghost use Rattle.sarif_results.specs.Drafts.{applied_of, drafts_by};
 ghost use Rattle.sarif_log.specs.Internal.Texts.{own_count, ArePartsOf, IsWholeRun};
-ghost use Rattle.sarif_log.specs.LogBy.{listing_of, runs_by};
+ghost use Rattle.sarif_log.specs.LogBy.{expired_of, listing_of, runs_by};
 ghost use Rattle.sarif_log.specs.Internal.Prepared.{IsPrepared};
 ghost use Rattle.sarif_results.specs.Internal.Judged.{placed_in, IsJudged};
 ghost use Rattle.sarif_upkeep.specs.Internal.IsMatched.{IsFileOf};
@@ -30,7 +30,7 @@ use crate::matched::{MatchedStates, match_records};
 use crate::parts_of_runs::current_parts;
 use crate::run_parts::count_without;
 use crate::telling::{tell_current, tell_left};
-use crate::unused::count_unused;
+use crate::unused::{count_expired, count_unused};
 use sarif_counts::Life;
 use sarif_findings::Finding;
 use sarif_known::Standing;
@@ -63,6 +63,8 @@ struct CurrentSide {
     without: u32,
     /// How many entries of the suppression file match no result.
     unused: u32,
+    /// How many of these are expired.
+    expired: u32,
     /// The records of their results.
     records: Vec<Record>,
 }
@@ -140,6 +142,8 @@ fn current_side(
         → length rs ≡ length ds
         → current.entry.drafts.items ≡ drafts_by (listing_of file.now) (applied_of file.now) rs ds
         → made.unused ≡ unused_of file.now rs) }
+    ensures expired { IfOk result
+        (λ made. (rs : List Record) → made.expired ≡ expired_of file.now rs) }
 {
     let Half {
         runs,
@@ -147,6 +151,7 @@ fn current_side(
         drafts,
     } = current;
     let unused = count_unused(alloc, file, &drafts)?;
+    let expired = count_expired(file);
     let runs = current_parts(alloc, runs)?;
     let without = count_without(&runs);
     let side = Side {
@@ -158,6 +163,7 @@ fn current_side(
         side,
         without,
         unused,
+        expired,
         records,
     })
 }
@@ -259,6 +265,7 @@ fn prepare_sides<R: Threads + Sync>(
         side,
         without,
         unused,
+        expired,
         records,
     } = current_side(alloc, current, states, rules.file)?;
     let spent = Spent {
@@ -270,6 +277,7 @@ fn prepare_sides<R: Threads + Sync>(
         baseline: unmatched.side,
         without,
         unused,
+        expired,
         findings,
         life,
         copies: None,

@@ -10,7 +10,7 @@ use Rattle.sarif_counts.specs.Summary.{newline}
 use Rattle.sarif_log.specs.declared.facts.Facts.{Facts as MergeFacts}
 use Rattle.sarif_log.specs.declared.merged.Merged.{Merged}
 use Rattle.sarif_request.specs.declared.request.Request.{Request}
-use Rattle.sarif_shown.specs.Sentences.{entries_text, runs_text}
+use Rattle.sarif_shown.specs.Sentences.{counted, entries_text, runs_text}
 use Rattle.sarif_streams.specs.Counted.{failed_calls, inner_of}
 use Rattle.sarif_program.specs.declared.complaint.Complaints.{Complaints}
 
@@ -41,24 +41,35 @@ told_line sentence = codes "sarif_gate: " ++ (sentence ++ newline)
 abbrev pub told_if : ℕ → List ℕ → List ℕ
 told_if n sentence = if n == 0 then [] else told_line sentence
 
--- what happened: how many runs have no results, and how many suppression entries match nothing
-abbrev pub happened : ℕ → ℕ → List ℕ
-happened without unused =
-    told_if without (runs_text without) ++ told_if unused (entries_text unused)
+-- how many entries of the suppression file are expired
+abbrev pub expired_text : ℕ → List ℕ
+expired_text n =
+    counted n (codes " suppression entry has expired.")
+    (codes " suppression entries have expired.")
+
+-- what happened: how many runs have no results, how many suppression entries match nothing, and how many of these are
+-- expired
+abbrev pub happened : ℕ → ℕ → ℕ → List ℕ
+happened without unused expired =
+    told_if without (runs_text without)
+    ++ (told_if unused (entries_text unused) ++ told_if expired (expired_text expired))
 
 -- the lines on what happened, if explanations are requested
-abbrev pub happened_if : Bool → ℕ → ℕ → List ℕ
-happened_if explain without unused = if explain then happened without unused else []
+abbrev pub happened_if : Bool → ℕ → ℕ → ℕ → List ℕ
+happened_if explain without unused expired =
+    if explain then happened without unused expired else []
 
 -- all lines of a merge with these facts
 abbrev pub lines_with : Request → MergeFacts → List ℕ
 lines_with request facts =
-    lines_of facts.life.now ++ happened_if request.explain facts.without facts.unused
+    lines_of facts.life.now
+    ++ happened_if request.explain facts.without facts.unused facts.expired
 
 -- all lines of this merge
 abbrev pub lines_for : Request → Merged → List ℕ
 lines_for request merged =
-    lines_of merged.life ++ happened_if request.explain merged.without merged.unused
+    lines_of merged.life
+    ++ happened_if request.explain merged.without merged.unused merged.expired
 
 -- these lines were written, or a prefix of them if a write failed; no error was reported, and nothing was written if
 -- there are no lines

@@ -7,7 +7,7 @@ use sarif_counts::{KnownLog, Life, NewFile};
 use sarif_log::Facts;
 use sarif_model::Text;
 use sarif_request::Request;
-use sarif_shown::{entries_text, runs_text};
+use sarif_shown::{count_text, entries_text, runs_text};
 use std::alloc::{AllocError, Global};
 
 /// Returns the lines on what is for later merges. If explanations are requested, lines on what happened follow.
@@ -20,23 +20,20 @@ pub(crate) fn lines_with(
 {
     let mut lines = lines_of(alloc, facts.life)?;
     if request.explain {
-        push_happened(alloc, &mut lines, facts.without, facts.unused)?;
+        push_happened(alloc, &mut lines, facts)?;
     }
     Text::from_string(lines)
 }
 
-/// Adds a line on runs without results and one on unused entries, each if there are any.
-fn push_happened(
-    alloc: Global,
-    lines: &mut String,
-    without: u32,
-    unused: u32,
-) -> Result<(), AllocError>
-    ensures { OnOk result (string_bytes lines.new
-        ≡ string_bytes lines.old ++ said.happened without unused) }
+/// Adds a line on runs without results, one on unused entries and one on those of them that are expired, each if there
+/// are any.
+fn push_happened(alloc: Global, lines: &mut String, facts: &Facts<'_>) -> Result<(), AllocError>
+    ensures { OnOk result (string_bytes lines.new ≡ string_bytes lines.old
+        ++ said.happened facts.now.without facts.now.unused facts.now.expired) }
 {
-    lines.push_str(runs_line(alloc, without)?.as_str())?;
-    lines.push_str(entries_line(alloc, unused)?.as_str())?;
+    lines.push_str(runs_line(alloc, facts.without)?.as_str())?;
+    lines.push_str(entries_line(alloc, facts.unused)?.as_str())?;
+    lines.push_str(expired_line(alloc, facts.expired)?.as_str())?;
     Ok(())
 }
 
@@ -59,6 +56,30 @@ fn entries_line(alloc: Global, unused: u32) -> Result<String, AllocError>
         return Ok(String::new(alloc));
     }
     let sentence = entries_text(alloc, unused)?;
+    format!(in alloc; "sarif_gate: {sentence}\n")
+}
+
+/// How many entries of the suppression file are expired.
+fn expired_text(alloc: Global, number: u32) -> Result<String, AllocError>
+    ensures { IfOk result (λ s. string_bytes s ≡ said.expired_text number) }
+{
+    count_text(
+        alloc,
+        number as usize,
+        " suppression entry has expired.",
+        " suppression entries have expired.",
+    )
+}
+
+/// Returns the line on expired entries, if there are any.
+fn expired_line(alloc: Global, expired: u32) -> Result<String, AllocError>
+    ensures { IfOk result
+        (λ s. string_bytes s ≡ said.told_if expired (said.expired_text expired)) }
+{
+    if expired == 0 {
+        return Ok(String::new(alloc));
+    }
+    let sentence = expired_text(alloc, expired)?;
     format!(in alloc; "sarif_gate: {sentence}\n")
 }
 

@@ -8,7 +8,7 @@ use Rattle.sarif_runs.specs.Judging.{records_of, run_values}
 use Rattle.sarif_runs.specs.Placed.{Placed}
 use Rattle.sarif_findings.specs.declared.reporting.Reporting.{Reporting}
 use Rattle.sarif_log.specs.declared.prepared.Prepared.{Prepared}
-use Rattle.sarif_log.specs.LogBy.{runs_by, runs_without_results}
+use Rattle.sarif_log.specs.LogBy.{expired_of, runs_by, runs_without_results}
 use Rattle.sarif_log.specs.Told.{told_of}
 use Rattle.sarif_log.specs.declared.copies.CopyPlace.{CopyPlace}
 use Rattle.sarif_log.specs.Internal.Copied.{places_by}
@@ -22,6 +22,7 @@ pub record IsPrepared (version : MatchingVersion) (file : File) (current baselin
       (runs_by version file current baseline)
   pub without : prepared.without ≡ runs_without_results (run_values current)
   pub unused : prepared.unused ≡ unused_of file (records_of current)
+  pub expired : prepared.expired ≡ expired_of file (records_of current)
   pub told : prepared.findings.items ≡ told_of asked (runs_by version file current baseline)
   pub copies : prepared.copies ≡ None
 

@@ -39,5 +39,5 @@ pub returns-clause-told : goal.returns-clause-told
 returns-clause-told g c = (
   _,
   subst (IsToldBy g.Tell.FnOnce c.args.tell _) c.in_ok-told.was c.text_beside-text.ensures.said,
-  record { counts = refl; without = refl; unused = refl; findings = refl; life = refl },
+  record { counts = refl; without = refl; unused = refl; expired = refl; findings = refl; life = refl },
 )

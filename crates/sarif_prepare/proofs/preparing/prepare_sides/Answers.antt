@@ -67,6 +67,7 @@ returns-clause-prepared g c = λ now before h.
       unused =
           c.in_ok-side.ensures.unused (records_of now) (flat_map results_of (run_values now))
           (h.current_records ∙ sym (results_long (run_values now))) h.is_current.drafts;
+      expired = c.in_ok-side.ensures.expired (records_of now);
       told = c.in_ok-paired.ensures.findings file now before h;
       copies = refl;
     }

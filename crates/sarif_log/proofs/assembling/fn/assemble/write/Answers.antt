@@ -6,6 +6,7 @@ returns g c = record {
   counted =
       if_both _ _ _ c.write_log.result c.write_log.ensures.log c.write_log.ensures.findings
       (λ made. merged_as c.captures.prepared c.captures.options.now.policy made.0);
+  expired = c.write_log.ensures.expired;
   life = c.write_log.ensures.life;
   told = c.write_log.ensures.told;
 }
