@@ -193,7 +193,7 @@ style_narrow =
     codes "label{gap:.25rem}\n" ++ (
     codes "section{margin-top:.5rem}\n" ++ (
     codes "h2{padding:0;font-size:1.25rem}\n" ++ (
-    codes "summary{padding:.25rem 0}\n" ++ (
+    codes "summary{padding:.375rem 0}\n" ++ (
     codes "h3{font-size:.8125rem;max-height:2.125rem}\n" ++ (
     codes ".rules{overflow-x:auto}\n" ++ (
     codes ".rules th,.rules td{max-width:10rem;padding-right:.75rem}\n" ++ (

@@ -172,7 +172,7 @@ legend{min-width:2.75rem}
 label{gap:.25rem}
 section{margin-top:.5rem}
 h2{padding:0;font-size:1.25rem}
-summary{padding:.25rem 0}
+summary{padding:.375rem 0}
 h3{font-size:.8125rem;max-height:2.125rem}
 .rules{overflow-x:auto}
 .rules th,.rules td{max-width:10rem;padding-right:.75rem}
