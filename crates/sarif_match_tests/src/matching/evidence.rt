@@ -5,7 +5,7 @@ use sarif_model::{Record, State};
 use std::alloc::{AllocError, Global};
 use std::test::Fail;
 
-/// How a row writes a state.
+/// Returns how a row writes a state.
 pub fn sign_of(state: State) -> char {
     match state {
         State::New => 'n',
@@ -15,7 +15,7 @@ pub fn sign_of(state: State) -> char {
     }
 }
 
-/// The state of a result with this match, as it is in version 2, and in versions 2 and 3.
+/// Returns the state of a result with this match: without a version, in version 2 and in version 3.
 fn signs_of(
     alloc: Global,
     current: &Record,
@@ -29,7 +29,7 @@ fn signs_of(
     Ok(signs)
 }
 
-/// A row with the signs that are found.
+/// Returns the row with the states that the library returns.
 fn row_of(alloc: Global, row: &str) -> Result<String, AllocError> {
     let (one, rest) = row.split_once(" | ").unwrap_or((row, ""));
     let (other, _) = rest.split_once(" | ").unwrap_or((rest, ""));

@@ -8,7 +8,7 @@ use std::alloc::AllocError;
 use std::process::Abort;
 use std::test::Fail;
 
-/// The digit of a match, or `-` for none.
+/// Returns the digit of a match, or `-` without one.
 fn digit_of(partner: Option<u32>) -> char {
     match partner {
         Some(number) => char::from_digit(number, 10).unwrap_or('?'),
@@ -39,7 +39,7 @@ fn push_matches(
     Ok(())
 }
 
-/// Adds for each baseline result `*` if it is matched and `.` if it is left.
+/// Adds `*` for each baseline result that is matched, and `.` for each other one.
 fn push_marks(
     answer: &mut String,
     baseline: &[Record],
@@ -53,7 +53,7 @@ fn push_marks(
     Ok(())
 }
 
-/// The answer of a version.
+/// Returns the matches and states in a version, as a row writes them.
 fn answer(
     rt: &(impl Abort + AllocGlobal),
     current: &[Record],
@@ -67,7 +67,7 @@ fn answer(
     Ok(answer)
 }
 
-/// The answers of both versions.
+/// Returns the matches and states in versions 2 and 3, as a row writes them.
 fn answers(
     rt: &(impl Abort + AllocGlobal),
     current: &[Record],
@@ -78,7 +78,7 @@ fn answers(
     format!(in rt.alloc(); "{two} | {three}")
 }
 
-/// A row with the answers that are found.
+/// Returns the row with the matches and states that the library returns.
 fn row_of(rt: &(impl Abort + AllocGlobal), row: &str) -> Result<String, AllocError> {
     let (current, rest) = row.split_once(" | ").unwrap_or((row, ""));
     let (baseline, _) = rest.split_once(" | ").unwrap_or((rest, ""));
@@ -88,27 +88,27 @@ fn row_of(rt: &(impl Abort + AllocGlobal), row: &str) -> Result<String, AllocErr
     format!(in rt.alloc(); "{current} | {baseline} | {found}")
 }
 
-/// The current and the baseline results, and the answers of versions 2 and 3. An answer has the match and the state of
-/// each current result, then which baseline results are matched.
+/// The current and the baseline results, then the matches and states in version 2 and in version 3: the number and the
+/// state of each current result's match, then which baseline results are matched.
 const ROWS: [&str; 36] = [
-    // Equal results are paired in their order, in version 3 from the end. One is found in any run of the baseline.
+    // Equal results match in order, in version 3 from the end.
     "-, -, - | -, - | 0= 1= -n ** | -n 0= 1= **",
     "- | - | 0= * | 0= *",
     "- | -, - | 0= *. | 1= .*",
-    // Where nothing is current nobody is taken.
+    // Without current results no baseline result is matched.
     "none | -, - | .. | ..",
-    // Equal GUIDs are paired whatever the message, and a result with a GUID has no key by its place.
+    // Results with equal GUIDs match with any message, and a result with a GUID has no key by its place.
     "%+!n+#G | %+#G | 0~ * | 0~ *",
     "-+#G, -+#G | -+#G, - | 0= -n *. | -n 0= *.",
-    // Another kind alone is an update.
+    // A result with another `kind` is updated.
     "- | -+? | 0~ * | 0~ *",
-    // Other partial fingerprints are another result in version 2. One that moved is updated, unless one stayed.
+    // In version 2 other partial fingerprints don't match. A result that stayed comes before one that moved.
     "a.c+p/v1=b | a.c+p/v1=a | -n . | 0~ *",
     "b.c+p/v1=a | a.c+p/v1=a | 0~ * | 0~ *",
     "b.c+p/v1=a, c.c+p/v1=a | a.c+p/v1=a, b.c+p/v1=a | 1= 0~ ** | 1= 0~ **",
     // The greatest name of a fingerprint comes first.
     "%+f/v1:x+f/v2:y | %+f/v1:x, %+f/v2:y | 1= .* | 1= .*",
-    // In version 3 what stayed in its file comes first.
+    // In version 3 a result that stayed in its file comes first.
     "a.c+f/v1:x, b.c+f/v1:x | b.c+f/v1:x, a.c+f/v1:x | 0~ 1~ ** | 1= 0= **",
     "a.c+f/v1:y | a.c+f/v1:x | -n . | 0~ *",
     "a.c+f/v1:y, a.c | a.c | -n 0= * | -n 0= *",
@@ -117,15 +117,15 @@ const ROWS: [&str; 36] = [
     "a.c+f:x+g:y | b.c+g:y, a.c+f:x | 0~ *. | 1= .*",
     "a.c+f:x+p=1 | b.c+f:x, a.c+p=1 | 0~ *. | 1= .*",
     "a.c+f/v1:x+!n | a.c+f/v1:x, a.c+f/v1:x+!n | 0~ *. | 1= .*",
-    // Ranks count from the end.
+    // In version 3 results match from the end.
     "a.c+f/v1:3, a.c+f/v1:1, a.c+f/v1:4 | a.c+f/v1:1, a.c+f/v1:2 | -n 0= -n *. | -n 0= 1~ **",
     "a.c+@3, a.c+@10, a.c+@22 | a.c+@3, a.c+@20 | 0= 1= -n ** | 0= -n 1= **",
     "a.c+'y, a.c+'x | a.c+'x | 0= -n * | -n 0= *",
-    // A GUID keeps out of places, and apart from nothing.
+    // A result with a GUID doesn't match by its place. Two GUIDs don't prevent a match.
     "a.c+#G | a.c | -n . | -n .",
     "a.c+f/v1:x+#G | a.c+f/v1:x+#1 | 0= * | 0= *",
     "a.c+'x+#G | a.c+'y+#G | 0= * | 0~ *",
-    // Snippets name the result.
+    // Snippets identify the result in version 3.
     "a.c+'x | a.c+'y | 0= * | 0~ *",
     "a.c+'x+@1, a.c+'x+@5 | a.c+'x+@1 | 0= -n * | 0= -n *",
     "a.c+' x\n=1 | a.c+'x=1 | 0= * | 0= *",
@@ -135,7 +135,7 @@ const ROWS: [&str; 36] = [
     "a.c+f/v1:l+'x | a.c+f/v1:l+'y | 0= * | 0~ *",
     "a.c+f/v1:y+'x, a.c+'z | a.c+'x | -n 0= * | 0= -n *",
     "a.c+f/v1:y+'z, a.c+'w | a.c+'x | -n 0= * | -n 0~ *",
-    // Partial fingerprints agree as a whole, and an empty one says nothing.
+    // Partial fingerprints are compared as a whole, and version 3 ignores an empty one.
     "a.c+p=1+q=1 | a.c+p=1+q=2 | -n . | 0~ *",
     "b.c+p= | a.c+p= | 0~ * | -n .",
 ];

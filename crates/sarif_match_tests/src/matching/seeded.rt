@@ -17,7 +17,7 @@ struct Draw {
     seed: u64,
 }
 
-/// What is drawn for a result: one of so many numbers, and the part of that number, or nothing if there is none.
+/// What is drawn for a result: a number below this one, and the part with the number that was drawn, if there is one.
 const PARTS: [(u64, &str); 8] = [
     (4, "$other"),
     (3, "%R2"),
@@ -82,7 +82,7 @@ fn first_left(
     Ok(None)
 }
 
-/// Pairs what is left over at a tier: one current result after the other, each with the first that is left.
+/// Pairs what is left over at a tier: each current result, in order, with the first baseline result that is left.
 fn pair_at(
     current: &[Record],
     baseline: &[Record],
@@ -112,7 +112,7 @@ fn plain_partners(
     Ok(partners)
 }
 
-/// Asserts that each result has the match that is wanted, and returns how many have one.
+/// Asserts that each result has the expected match, and returns how many have one.
 fn expect_partners(rt: &impl Abort, matching: &Matching, wanted: &[Option<u32>]) -> u64 {
     let mut paired = 0u64;
     let mut number = 0u32;
@@ -156,7 +156,7 @@ fn equal_results(alloc: Global) -> Result<Vec<Record>, AllocError> {
     Ok(made)
 }
 
-/// How many results match the one with their own number and are unchanged.
+/// Returns how many results match the one with their own number and are unchanged.
 fn count_in_order(current: &[Record], baseline: &[Record], matching: &Matching) -> u32 {
     let mut count = 0u32;
     let mut number = 0u32;
@@ -195,7 +195,7 @@ fn named_results(alloc: Global, is_backwards: bool) -> Result<Vec<Record>, Alloc
     Ok(made)
 }
 
-/// How many results match as the first one matches the last one, and so on.
+/// Returns how many results match the one with the same number from the end.
 fn count_backwards(matching: &Matching) -> u32 {
     let mut count = 0u32;
     for number in 0..MANY {

@@ -5,7 +5,7 @@ use sarif_model::Record;
 use std::alloc::{AllocError, Global};
 use std::test::Fail;
 
-/// The tiers of two lists in a version. The second one may be left out.
+/// Returns the tiers of two lists in a version. The second list may be left out.
 fn tiers_of(alloc: Global, lists: &str, version: MatchingVersion) -> Result<String, AllocError> {
     let (current, baseline) = lists.split_once(" | ").unwrap_or((lists, "none"));
     let current = results_of(alloc, current)?;
@@ -62,7 +62,7 @@ fn push_keys(
     Ok(())
 }
 
-/// A row with the keys that are found.
+/// Returns the row with the keys that the library returns.
 fn row_of(alloc: Global, row: &str) -> Result<String, AllocError> {
     let (parts, _) = row.split_once(" | ").unwrap_or((row, ""));
     let mut found = format!(in alloc; "{parts} | ")?;
@@ -73,7 +73,7 @@ fn row_of(alloc: Global, row: &str) -> Result<String, AllocError> {
     Ok(found)
 }
 
-/// The same for version 3, which sees a result in its own way.
+/// Adds the keys of version 3 for these results, which it first changes.
 fn push_seen(alloc: Global, flags: &mut String, plain: &[Record]) -> Result<(), AllocError> {
     let mut seen = Vec::new(alloc);
     for one in plain {

@@ -1,7 +1,7 @@
-//! Results by what a test says of them. A result is its parts with `+` between them, as in `a.c+f/v1:x+@3`, and a list
-//! is its results with `, ` between them, or `none`. What a part says:
+//! Results in few words. A result is written as its parts with `+` between them, for example `a.c+f/v1:x+@3`. A list is
+//! written as its results with `, ` between them, or as `none`. The parts:
 //!
-//! | part | of the result |
+//! | part | what it means |
 //! |---|---|
 //! | `a.c` | its URI |
 //! | `f/v1:x` | its fingerprint `f/v1` has the value `x` |
@@ -20,7 +20,7 @@ use std::alloc::{AllocError, Global};
 /// The GUID `#G`.
 const GUID: u128 = 0x0f14d0ab96054a62a9e45ed26688389b;
 
-/// The result of which nothing is said.
+/// Returns the result without parts.
 pub fn plain(alloc: Global) -> Result<Record, AllocError> {
     let text = Some(Text::copy_of(alloc, "m")?);
     Ok(Record {
@@ -61,7 +61,7 @@ fn region_of(line: &str) -> Region {
     }
 }
 
-/// Adds a part that is a fingerprint or a URI, or says nothing.
+/// Adds a part that is a fingerprint, a URI or `-`.
 fn add_name(alloc: Global, made: &mut Record, part: &str) -> Result<(), AllocError> {
     if let Some((name, value)) = part.split_once(':') {
         made.full.push(pair_of(alloc, name, value)?)?;
@@ -73,7 +73,7 @@ fn add_name(alloc: Global, made: &mut Record, part: &str) -> Result<(), AllocErr
     Ok(())
 }
 
-/// Adds what a part says.
+/// Adds a part.
 pub fn add(alloc: Global, made: &mut Record, part: &str) -> Result<(), AllocError> {
     let mut rest = part.chars();
     match rest.next() {
@@ -89,7 +89,7 @@ pub fn add(alloc: Global, made: &mut Record, part: &str) -> Result<(), AllocErro
     Ok(())
 }
 
-/// A result by its parts.
+/// Returns the result with these parts.
 pub fn result_of(alloc: Global, parts: &str) -> Result<Record, AllocError> {
     let mut made = plain(alloc)?;
     for part in parts.split('+') {
@@ -98,7 +98,7 @@ pub fn result_of(alloc: Global, parts: &str) -> Result<Record, AllocError> {
     Ok(made)
 }
 
-/// The results of a list.
+/// Returns the results of a list.
 pub fn results_of(alloc: Global, list: &str) -> Result<Vec<Record>, AllocError> {
     let mut made = Vec::new(alloc);
     if list != "none" {
