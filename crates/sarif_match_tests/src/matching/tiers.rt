@@ -56,7 +56,11 @@ fn push_keys(
 ) -> Result<(), AllocError> {
     for tier in &tiers(alloc, findings, &[], version)? {
         for finding in findings {
-            flags.push(if key(finding, tier)?.is_some() { '+' } else { '.' })?;
+            flags.push(if key(finding, tier)?.is_some() {
+                '+'
+            } else {
+                '.'
+            })?;
         }
     }
     Ok(())
