@@ -1,7 +1,7 @@
 //! Matching compared with a matching that follows the rule word by word, on lists from a seeded generator and on
 //! long lists.
 use super::matched;
-use super::sketch::{A, Sketch, record, records};
+use super::words::{add, plain, result_of};
 use sarif_match::{Matching, MatchingVersion, Tier, key, match_all_with, state, tiers};
 use sarif_model::{Record, State};
 use std::alloc::{AllocError, Global};
@@ -17,6 +17,18 @@ struct Draw {
     seed: u64,
 }
 
+/// What is drawn for a result: a number below this one, and the part with the number that was drawn, if there is one.
+const PARTS: [(u64, &str); 8] = [
+    (4, "$other"),
+    (3, "%R2"),
+    (4, "!n"),
+    (3, "- a.c b.c"),
+    (6, "#1 #2"),
+    (6, "f/v1:x f/v1:y f/v2:x"),
+    (6, "f/v2:x f/v1:x"),
+    (4, "p/v1=a p/v2=a"),
+];
+
 impl Draw {
     /// A number below `n`, or 0.
     fn below(&mut self, n: u64) -> u64 {
@@ -27,109 +39,64 @@ impl Draw {
         if n == 0 { 0 } else { (self.seed >> 33) % n }
     }
 
-    fn sketch(&mut self) -> Sketch<'static> {
-        Sketch {
-            tool: if self.below(4) == 0 { "other" } else { "lint" },
-            rule_id: if self.below(3) == 0 { "R2" } else { "R1" },
-            text: if self.below(4) == 0 { "n" } else { "m" },
-            uri: match self.below(3) {
-                0 => None,
-                1 => Some("a.c"),
-                _ => Some("b.c"),
-            },
-            guid: match self.below(6) {
-                0 => Some(1),
-                1 => Some(2),
-                _ => None,
-            },
-            full: match self.below(6) {
-                0 => Some(("f/v1", "x")),
-                1 => Some(("f/v1", "y")),
-                2 => Some(("f/v2", "x")),
-                _ => None,
-            },
-            second: match self.below(6) {
-                0 => Some(("f/v2", "x")),
-                1 => Some(("f/v1", "x")),
-                _ => None,
-            },
-            partial: match self.below(4) {
-                0 => Some(("p/v1", "a")),
-                1 => Some(("p/v2", "a")),
-                _ => None,
-            },
-            second_partial: None,
-            kind: A.kind,
-            line: None,
-            snippet: None,
+    fn result(&mut self, alloc: Global) -> Result<Record, AllocError> {
+        let mut made = plain(alloc)?;
+        for (count, parts) in &PARTS {
+            let number = self.below(*count);
+            if let Some(part) = parts.split(' ').nth(number as usize) {
+                add(alloc, &mut made, part)?;
+            }
         }
+        Ok(made)
     }
 
     fn list(&mut self, alloc: Global) -> Result<Vec<Record>, AllocError> {
         let mut made = Vec::new(alloc);
         for _ in 0..self.below(5) {
-            made.push(record(alloc, &self.sketch())?)?;
+            made.push(self.result(alloc)?)?;
         }
         Ok(made)
     }
 }
 
-/// Whether result `i` of a list is left over and has the same key as a finding.
-fn is_like(
-    list: &[Record],
-    over: &[bool],
-    i: usize,
-    finding: &Record,
-    tier: &Tier,
-) -> Result<bool, AllocError> {
-    let Some(one) = list.get(i) else {
-        return Ok(false);
-    };
-    let wanted = key(finding, tier)?;
-    Ok(wanted.is_some() && over.get(i) == Some(&true) && key(one, tier)? == wanted)
+/// Whether two results have the same key at a tier.
+fn are_alike(one: &Record, other: &Record, tier: &Tier) -> Result<bool, AllocError> {
+    let wanted = key(one, tier)?;
+    Ok(wanted.is_some() && key(other, tier)? == wanted)
 }
 
-/// How many results before number `i` are left over and have the same key.
-fn rank(
-    list: &[Record],
-    over: &[bool],
-    i: usize,
+/// The first baseline result that is left over and has the same key as a finding.
+fn first_left(
     finding: &Record,
-    tier: &Tier,
-) -> Result<u64, AllocError> {
-    let mut count = 0u64;
-    for k in 0..i {
-        if is_like(list, over, k, finding, tier)? {
-            count = count.wrapping_add(1);
-        }
-    }
-    Ok(count)
-}
-
-/// The number of the baseline result that is paired with current result `i` at this tier.
-fn paired_at(
-    current: &[Record],
-    left: &[bool],
     baseline: &[Record],
-    free: &[bool],
-    i: usize,
+    partners: &[Option<u32>],
     tier: &Tier,
-) -> Result<Option<usize>, AllocError> {
-    let Some(finding) = current.get(i) else {
-        return Ok(None);
-    };
-    if !is_like(current, left, i, finding, tier)? {
-        return Ok(None);
-    }
-    let own = rank(current, left, i, finding, tier)?;
-    for j in 0..baseline.len() {
-        if is_like(baseline, free, j, finding, tier)?
-            && rank(baseline, free, j, finding, tier)? == own
-        {
-            return Ok(Some(j));
+) -> Result<Option<u32>, AllocError> {
+    let mut number = 0u32;
+    for one in baseline {
+        if !partners.contains(&Some(number)) && are_alike(finding, one, tier)? {
+            return Ok(Some(number));
         }
+        number = number.saturating_add(1);
     }
     Ok(None)
+}
+
+/// Pairs what is left over at a tier: each current result, in order, with the first baseline result that is left.
+fn pair_at(
+    current: &[Record],
+    baseline: &[Record],
+    partners: &mut [Option<u32>],
+    tier: &Tier,
+) -> Result<(), AllocError> {
+    let mut i = 0;
+    for finding in current {
+        if i < partners.len() && partners[i].is_none() {
+            partners[i] = first_left(finding, baseline, partners, tier)?;
+        }
+        i = i.saturating_add(1);
+    }
+    Ok(())
 }
 
 /// The matches by the rule, read word by word.
@@ -137,30 +104,33 @@ fn plain_partners(
     alloc: Global,
     current: &[Record],
     baseline: &[Record],
-) -> Result<Vec<Option<usize>>, AllocError> {
+) -> Result<Vec<Option<u32>>, AllocError> {
     let mut partners = vec![in alloc; None; current.len()]?;
-    let mut left = vec![in alloc; true; current.len()]?;
-    let mut free = vec![in alloc; true; baseline.len()]?;
     for tier in &tiers(alloc, current, baseline, MatchingVersion::Two)? {
-        let mut pairs = Vec::new(alloc);
-        for i in 0..current.len() {
-            if let Some(j) = paired_at(current, &left, baseline, &free, i, tier)? {
-                pairs.push((i, j))?;
-            }
-        }
-        for (i, j) in &pairs {
-            put(&mut partners, *i, Some(*j));
-            put(&mut left, *i, false);
-            put(&mut free, *j, false);
-        }
+        pair_at(current, baseline, &mut partners, tier)?;
     }
     Ok(partners)
 }
 
-fn put<T: Drop>(list: &mut Vec<T>, i: usize, value: T) {
-    if i < list.len() {
-        list[i] = value;
+/// Asserts that each result has the expected match, and returns how many have one.
+fn expect_partners(rt: &impl Abort, matching: &Matching, wanted: &[Option<u32>]) -> u64 {
+    let mut paired = 0u64;
+    let mut number = 0u32;
+    for partner in wanted {
+        assert!(rt; matching.partner(number) == *partner);
+        paired = paired.wrapping_add(u64::from(partner.is_some()));
+        number = number.saturating_add(1);
     }
+    paired
+}
+
+/// Draws two lists, asserts that they are matched by the rule, and returns how many are.
+fn expect_drawn(rt: &(impl Abort + AllocGlobal), draw: &mut Draw) -> Result<u64, AllocError> {
+    let current = draw.list(rt.alloc())?;
+    let baseline = draw.list(rt.alloc())?;
+    let wanted = plain_partners(rt.alloc(), &current, &baseline)?;
+    let matching = matched(rt, &current, &baseline, MatchingVersion::Two)?;
+    Ok(expect_partners(rt, &matching, &wanted))
 }
 
 #[test]
@@ -168,19 +138,7 @@ fn drawn_lists_are_matched_as_the_rule_says(rt: HostRuntime) -> Result<(), Fail>
     let mut draw = Draw { seed: 20240917 };
     let mut paired = 0u64;
     for _ in 0..20_000 {
-        let current = draw.list(rt.alloc())?;
-        let baseline = draw.list(rt.alloc())?;
-        let wanted = plain_partners(rt.alloc(), &current, &baseline)?;
-        let matching = matched(&rt, &current, &baseline)?;
-        let mut number = 0u32;
-        for partner in &wanted {
-            let found = matching.partner(number).map(|j| j as usize);
-            assert_eq!(&rt; found, *partner);
-            if partner.is_some() {
-                paired = paired.wrapping_add(1);
-            }
-            number = number.saturating_add(1);
-        }
+        paired = paired.wrapping_add(expect_drawn(&rt, &mut draw)?);
     }
     assert!(rt; paired > 5_000, "too few pairs: {paired}");
     Ok(())
@@ -193,43 +151,38 @@ const MANY: u32 = 20_000;
 fn equal_results(alloc: Global) -> Result<Vec<Record>, AllocError> {
     let mut made = Vec::new(alloc);
     for _ in 0..MANY {
-        made.push(record(alloc, &A)?)?;
+        made.push(plain(alloc)?)?;
     }
     Ok(made)
 }
 
-/// Asserts that each result matches the one with its own number.
-fn expect_in_order(rt: &impl Abort, current: &[Record], baseline: &[Record], matching: &Matching) {
+/// Returns how many results match the one with their own number and are unchanged.
+fn count_in_order(current: &[Record], baseline: &[Record], matching: &Matching) -> u32 {
+    let mut count = 0u32;
     let mut number = 0u32;
     for finding in current {
-        assert_eq!(rt; matching.partner(number), Some(number));
-        assert_eq!(rt;
-            state(finding, baseline.get(number as usize)),
-            State::Unchanged
-        );
+        let is_unchanged = state(finding, baseline.get(number as usize)) == State::Unchanged;
+        if is_unchanged && matching.partner(number) == Some(number) {
+            count = count.saturating_add(1);
+        }
         number = number.saturating_add(1);
     }
+    count
 }
 
 #[test]
 fn long_lists_of_equal_results_are_paired_in_order(rt: HostRuntime) -> Result<(), Fail> {
     let current = equal_results(rt.alloc())?;
     let baseline = equal_results(rt.alloc())?;
-    let matching = matched(&rt, &current, &baseline)?;
-    expect_in_order(&rt, &current, &baseline, &matching);
+    let matching = matched(&rt, &current, &baseline, MatchingVersion::Two)?;
+    assert_eq!(rt; count_in_order(&current, &baseline, &matching), MANY);
     Ok(())
 }
 
 /// A result with a fingerprint of that name.
 fn named(alloc: Global, number: u32) -> Result<Record, AllocError> {
-    let name = format!(in alloc; "{number}")?;
-    record(
-        alloc,
-        &Sketch {
-            full: Some((name.as_str(), "x")),
-            ..A
-        },
-    )
+    let parts = format!(in alloc; "{number}:x")?;
+    result_of(alloc, parts.as_str())
 }
 
 /// Results each with a fingerprint of another name.
@@ -242,19 +195,23 @@ fn named_results(alloc: Global, is_backwards: bool) -> Result<Vec<Record>, Alloc
     Ok(made)
 }
 
-/// Asserts that the first result matches the last one, and so on.
-fn expect_backwards(rt: &impl Abort, matching: &Matching) {
+/// Returns how many results match the one with the same number from the end.
+fn count_backwards(matching: &Matching) -> u32 {
+    let mut count = 0u32;
     for number in 0..MANY {
-        assert_eq!(rt; matching.partner(number), Some(MANY - 1 - number));
+        if matching.partner(number) == Some(MANY - 1 - number) {
+            count = count.saturating_add(1);
+        }
     }
+    count
 }
 
 #[test]
 fn many_fingerprint_names_are_all_paired(rt: HostRuntime) -> Result<(), Fail> {
     let current = named_results(rt.alloc(), false)?;
     let baseline = named_results(rt.alloc(), true)?;
-    let matching = matched(&rt, &current, &baseline)?;
-    expect_backwards(&rt, &matching);
+    let matching = matched(&rt, &current, &baseline, MatchingVersion::Two)?;
+    assert_eq!(rt; count_backwards(&matching), MANY);
     Ok(())
 }
 
@@ -269,34 +226,38 @@ impl RandomSource for EqualBytes {
     }
 }
 
-fn matched_with(
+/// Asserts the matches of two lists with the seed of these bytes.
+fn expect_seeded(
     rt: &(impl Abort + AllocGlobal),
-    seed: RandomState,
+    byte: u8,
     current: &[Record],
     baseline: &[Record],
-) -> Result<Matching, AllocError> {
+    wanted: &[Option<u32>],
+) -> Result<(), Fail> {
+    let seed = RandomState::new(&EqualBytes(byte))?;
     assert!(rt; current.len() <= 1_000_000);
     assert!(rt; baseline.len() <= 1_000_000);
-    match_all_with(rt.alloc(), seed, current, baseline)
+    let matching = match_all_with(rt.alloc(), seed, current, baseline)?;
+    expect_partners(rt, &matching, wanted);
+    Ok(())
+}
+
+/// Draws two lists, and asserts their matches with four seeds.
+fn expect_any_seed(rt: &(impl Abort + AllocGlobal), draw: &mut Draw) -> Result<(), Fail> {
+    let current = draw.list(rt.alloc())?;
+    let baseline = draw.list(rt.alloc())?;
+    let wanted = plain_partners(rt.alloc(), &current, &baseline)?;
+    for byte in [0, 1, 129, 255] {
+        expect_seeded(rt, byte, &current, &baseline, &wanted)?;
+    }
+    Ok(())
 }
 
 #[test]
 fn any_seed_gives_the_same_partners(rt: HostRuntime) -> Result<(), Fail> {
     let mut draw = Draw { seed: 20261123 };
     for _ in 0..500 {
-        let current = draw.list(rt.alloc())?;
-        let baseline = draw.list(rt.alloc())?;
-        let wanted = plain_partners(rt.alloc(), &current, &baseline)?;
-        for byte in [0, 1, 129, 255] {
-            let seed = RandomState::new(&EqualBytes(byte))?;
-            let matching = matched_with(&rt, seed, &current, &baseline)?;
-            let mut number = 0u32;
-            for partner in &wanted {
-                let found = matching.partner(number).map(|j| j as usize);
-                assert_eq!(&rt; found, *partner);
-                number = number.saturating_add(1);
-            }
-        }
+        expect_any_seed(&rt, &mut draw)?;
     }
     Ok(())
 }
