@@ -1,4 +1,4 @@
--- Lists of findings and of copies, without the results that have a partner.
+-- Lists of findings and of copies, without the results that are matched.
 use Rattle.std.proofs.Common.{◌≡◌, ◌+◌, suc, Bool, true, false, List, [], ◌∷◌, ◌++◌, map, length, refl, sym, ap, ◌∙◌, arith}
 use Rattle.sarif_once.specs.Once.{marked, woven}
 use Rattle.sarif_read.specs.Unmarked.{unmarked}

@@ -45,7 +45,7 @@ address_chars address h =
 
 -- ---- lengths
 
--- the length of these as a row has them
+-- the number of bytes of these characters, escaped
 unfoldable pub weight : List ℕ → ℕ
 weight cs = length (flat_map page_char cs)
 
