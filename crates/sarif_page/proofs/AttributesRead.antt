@@ -1,6 +1,5 @@
 -- A reader of a page finds in its rows the attributes that are stated for their results.
-use Rattle.std.proofs.Common.{◌≡◌, ◌+◌, ◌==◌, ◌++◌, ℕ, Bool, true, false, cond, List, [], ◌∷◌, Option, Some, None, codes, decimal, flat_map, append-nil, append_assoc, if◌then◌else◌, refl, sym, ap, subst, ◌∙◌, arith}
-use Rattle.std.specs.List.{count_by}
+use Rattle.std.proofs.Common.{◌≡◌, ◌+◌, ◌==◌, ◌++◌, ℕ, Bool, true, false, cond, List, [], ◌∷◌, Option, Some, None, codes, flat_map, append-nil, append_assoc, if◌then◌else◌, refl, sym, ap, subst, ◌∙◌, arith}
 use Rattle.std.proofs.lemmas.List.Sums.{sum_by-cons}
 use Rattle.sarif_model.specs.Level.{level_name}
 use Rattle.sarif_model.specs.State.{state_name}
@@ -11,31 +10,29 @@ use Rattle.sarif_shown.specs.Escaped.{escaped}
 use Rattle.sarif_shown.specs.Linked.{place_link}
 use Rattle.sarif_page.specs.HtmlAttributes.{Attribute, word_after, attributes_from, attributes_in, data_attributes, title_attributes, link_attributes, path_attributes, rule_attributes, row_attributes}
 use Rattle.sarif_page.specs.HtmlLaws.{quotes_in}
-use Rattle.sarif_page.specs.HtmlRow.{hit_word, row_data, row_front, spot_in, place_of, linked_place, place_cell, message_cells, title_of, link_begin, rule_code, rule_cell, tool_cells, result_row, rows_html, linked}
+use Rattle.sarif_page.specs.HtmlRow.{hit_word, row_data, row_front, spot_in, place_of, linked_place, message_cells, title_of, link_begin, rule_code, rule_cell, tool_cells, result_row, rows_html, linked}
 use Rattle.sarif_page.proofs.TagsCounted.{escaped_none, hit_none, level_none, message_marks, plain_marks, spot_marks, state_none, tool_marks}
 
 -- reading a string adds these attributes
 record Moves (text word : List ℕ) (value : Option (List ℕ)) (found : List Attribute) (word' : List ℕ) (value' : Option (List ℕ)) : Type 0 where
-  moved : (rest : List ℕ) → attributes_from word value (text ++ rest) ≡ found ++ attributes_from word' value' rest
+  moves : (rest : List ℕ) → attributes_from word value (text ++ rest) ≡ found ++ attributes_from word' value' rest
 
 then_moves : {a b word word' word'' : List ℕ} {value value' value'' : Option (List ℕ)} {first second : List Attribute}
     → Moves a word value first word' value' → Moves b word' value' second word'' value'' → Moves (a ++ b) word value (first ++ second) word'' value''
 then_moves {a} {b} {word} {word'} {word''} {value} {value'} {value''} {first} {second} one two = record {
-  moved = λ rest. ap (attributes_from word value) (append_assoc a b rest) ∙ one.moved (b ++ rest)
-      ∙ ap (λ l. first ++ l) (two.moved rest) ∙ sym (append_assoc first second (attributes_from word'' value'' rest));
+  moves = λ rest. ap (attributes_from word value) (append_assoc a b rest) ∙ one.moves (b ++ rest)
+      ∙ ap (λ l. first ++ l) (two.moves rest) ∙ sym (append_assoc first second (attributes_from word'' value'' rest));
 }
 
 -- reading a string outside of an attribute adds these, after any word
 record Reads (text : List ℕ) (found : List Attribute) : Type 0 where
-  read : (word : List ℕ) → (word' : List ℕ) × Moves text word None found word' None
+  reads : (word : List ℕ) → (word' : List ℕ) × Moves text word None found word' None
 
 reads_to : {text : List ℕ} {found : List Attribute} (word' : List ℕ) → ((word : List ℕ) → Moves text word None found word' None) → Reads text found
-reads_to word' moves = record { read = λ word. (word', moves word) }
+reads_to word' each = record { reads = λ word. (word', each word) }
 
 then_reads : {a b : List ℕ} {first second : List Attribute} → Reads a first → Reads b second → Reads (a ++ b) (first ++ second)
-then_reads one two = record {
-  read = λ word. let x = one.read word in let y = two.read x.0 in (y.0, then_moves x.1 y.1);
-}
+then_reads one two = record { reads = λ word. let x = one.reads word in let y = two.reads x.0 in (y.0, then_moves x.1 y.1) }
 
 no_quote : (b : ℕ) (bs : List ℕ) → quotes_in (b ∷ bs) ≡ 0 → ((b == 34) ≡ false) × (quotes_in bs ≡ 0)
 no_quote b bs h = by (b == 34) refl (sym (sum_by-cons (λ c. cond (c == 34) 1 0) b bs) ∙ h) where
@@ -44,49 +41,48 @@ no_quote b bs h = by (b == 34) refl (sym (sum_by-cons (λ c. cond (c == 34) 1 0)
   by false e g = (e, omega (arith, g))
 
 -- a string without quotes, outside and within an attribute
-outside_from : (text : List ℕ) → quotes_in text ≡ 0 → (word : List ℕ) → (word' : List ℕ) × Moves text word None [] word' None
-outside_from [] h word = (word, record { moved = λ rest. refl })
-outside_from (b ∷ bs) h word =
-    let parts = no_quote b bs h in
-    let later = outside_from bs parts.1 (word_after word b) in (
-      later.0,
-      record {
-        moved = λ rest.
-            ap (λ t. if t then attributes_from word (Some []) (bs ++ rest) else attributes_from (word_after word b) None (bs ++ rest)) parts.0
-            ∙ later.1.moved rest;
-      },
-    )
-
 outside : (text : List ℕ) → quotes_in text ≡ 0 → Reads text []
-outside text h = record { read = outside_from text h }
-
-within_from : (text word value rest : List ℕ) → quotes_in text ≡ 0
-    → attributes_from word (Some value) (text ++ rest) ≡ attributes_from word (Some (value ++ text)) rest
-within_from [] word value rest h = ap (λ l. attributes_from word (Some l) rest) (sym (append-nil value))
-within_from (b ∷ bs) word value rest h =
+outside [] h = record { reads = λ word. (word, record { moves = λ rest. refl }) }
+outside (b ∷ bs) h =
     let parts = no_quote b bs h in
-    ap
-    (λ t. if t then (word, value) ∷ attributes_from [] None (bs ++ rest) else attributes_from word (Some (value ++ b ∷ [])) (bs ++ rest))
-    parts.0
-    ∙ within_from bs word (value ++ b ∷ []) rest parts.1
-    ∙ ap (λ l. attributes_from word (Some l) rest) (append_assoc value (b ∷ []) bs)
+    record {
+      reads = λ word. let later = (outside bs parts.1).reads (word_after word b) in (
+        later.0,
+        record {
+          moves = λ rest.
+              ap (λ t. if t then attributes_from word (Some []) (bs ++ rest) else attributes_from (word_after word b) None (bs ++ rest)) parts.0
+              ∙ later.1.moves rest;
+        },
+      );
+    }
 
 within : (text word value : List ℕ) → quotes_in text ≡ 0 → Moves text word (Some value) [] word (Some (value ++ text))
-within text word value h = record { moved = λ rest. within_from text word value rest h }
+within [] word value h = record { moves = λ rest. ap (λ l. attributes_from word (Some l) rest) (sym (append-nil value)) }
+within (b ∷ bs) word value h =
+    let parts = no_quote b bs h in
+    let later = within bs word (value ++ b ∷ []) parts.1 in
+    record {
+      moves = λ rest.
+          ap
+          (λ t. if t then (word, value) ∷ attributes_from [] None (bs ++ rest) else attributes_from word (Some (value ++ b ∷ [])) (bs ++ rest))
+          parts.0
+          ∙ later.moves rest
+          ∙ ap (λ l. attributes_from word (Some l) rest) (append_assoc value (b ∷ []) bs);
+    }
 
 -- ---- the data of a row
 
 level_begin : (word : List ℕ) → Moves (codes "<li data-level=\"") word None [] (codes "data-level=") (Some [])
-level_begin word = record { moved = λ rest. refl }
+level_begin word = record { moves = λ rest. refl }
 
 state_begin : (word value : List ℕ) → Moves (codes "\" data-state=\"") word (Some value) ((word, value) ∷ []) (codes "data-state=") (Some [])
-state_begin word value = record { moved = λ rest. refl }
+state_begin word value = record { moves = λ rest. refl }
 
 hit_begin : (word value : List ℕ) → Moves (codes "\" data-hit=\"") word (Some value) ((word, value) ∷ []) (codes "data-hit=") (Some [])
-hit_begin word value = record { moved = λ rest. refl }
+hit_begin word value = record { moves = λ rest. refl }
 
 data_end : (word value : List ℕ) → Moves (codes "\">") word (Some value) ((word, value) ∷ []) (codes ">") None
-data_end word value = record { moved = λ rest. refl }
+data_end word value = record { moves = λ rest. refl }
 
 data_reads : (level state hit : List ℕ) → quotes_in level ≡ 0 → quotes_in state ≡ 0 → quotes_in hit ≡ 0
     → Reads (row_data level state hit) ((codes "data-level=", level) ∷ (codes "data-state=", state) ∷ (codes "data-hit=", hit) ∷ [])
@@ -103,13 +99,13 @@ front_reads f =
 -- ---- links
 
 title_begin : Moves (codes " title=\"") [] None [] (codes "title=") (Some [])
-title_begin = record { moved = λ rest. refl }
+title_begin = record { moves = λ rest. refl }
 
 quote_end : (word value : List ℕ) → Moves (codes "\"") word (Some value) ((word, value) ∷ []) [] None
-quote_end word value = record { moved = λ rest. refl }
+quote_end word value = record { moves = λ rest. refl }
 
 no_title : Moves [] [] None [] [] None
-no_title = record { moved = λ rest. refl }
+no_title = record { moves = λ rest. refl }
 
 title_moves : (name : Option (List ℕ)) → Moves (title_of name) [] None (title_attributes name) [] None
 title_moves None = no_title
@@ -118,10 +114,10 @@ title_moves (Some name) =
     (then_moves (within (escaped Page name) (codes "title=") [] (escaped_none name).quoted) (quote_end (codes "title=") (escaped Page name)))
 
 href_begin : (word : List ℕ) → Moves (codes "<a href=\"") word None [] (codes "href=") (Some [])
-href_begin word = record { moved = λ rest. refl }
+href_begin word = record { moves = λ rest. refl }
 
 rel_moves : Moves (codes " rel=\"noopener noreferrer\">") [] None ((codes "rel=", codes "noopener noreferrer") ∷ []) (codes ">") None
-rel_moves = record { moved = λ rest. refl }
+rel_moves = record { moves = λ rest. refl }
 
 begin_reads : (address : List ℕ) (name : Option (List ℕ)) → Reads (link_begin address name) (link_attributes (Some address) name)
 unfolding link_begin
@@ -136,7 +132,7 @@ in_link address name reads = then_reads (begin_reads address name) (then_reads r
 -- ---- the parts of a row
 
 class_begin : (word : List ℕ) → Moves (codes "<code class=\"all\"><i>") word None ((codes "class=", codes "all") ∷ []) (codes "i>") None
-class_begin word = record { moved = λ rest. refl }
+class_begin word = record { moves = λ rest. refl }
 
 class_reads : (text : List ℕ) → quotes_in text ≡ 0
     → Reads (codes "<code class=\"all\"><i>" ++ (text ++ codes "</i></code>")) ((codes "class=", codes "all") ∷ [])
@@ -182,5 +178,4 @@ rows_reads link (f ∷ fs) = then_reads (row_reads link f) (rows_reads link fs)
 
 pub attributes_read : (link : Option (List ℕ)) (fs : List Finding) → attributes_in (rows_html link fs) ≡ flat_map (row_attributes link) fs
 attributes_read link fs =
-    let whole = (rows_reads link fs).read [] in
-    ap attributes_in (sym (append-nil (rows_html link fs))) ∙ whole.1.moved [] ∙ append-nil (flat_map (row_attributes link) fs)
+    ap attributes_in (sym (append-nil (rows_html link fs))) ∙ ((rows_reads link fs).reads []).1.moves [] ∙ append-nil (flat_map (row_attributes link) fs)
