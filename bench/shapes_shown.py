@@ -1,12 +1,12 @@
 """Costly inputs whose reports show code or many files, each with its twin."""
 
-from shape_parts import Input, at, in_region, log, message, run
+from shape_parts import Input, at, in_region, logs_of, message
 
 LINE = "n" * 79 + "\n"
 
 
 def told(results):
-    return Input([log(run(results))], are_reported=True)
+    return Input(logs_of(results, 50_000), are_reported=True)
 
 
 def told_long_snippets(count):
