@@ -97,4 +97,5 @@ merged_as prepared policy made log findings = λ runs counted places bare idle a
       (subst (λ n. IsLogWith runs counted places policy n prepared.unused made) h.without
       (subst (λ ps. IsLogWith runs counted ps policy prepared.without prepared.unused made) h.named (log runs counted h.written)));
   told = findings ∙ h.told;
+  copies = (log runs counted h.written).named ∙ ap (option_map length) h.named;
 }

@@ -1,4 +1,6 @@
 pub mod BaselineSpots
+pub mod CopyDrafts
+pub mod CopyPlaces
 pub mod FoundDrafts
 pub mod KeptSides
 pub mod LeftTexts
@@ -12,4 +14,7 @@ pub mod StandingsMore
 pub mod ToldResults
 pub mod ToldRuns
 pub mod ToldSides
+pub mod Untaken
+pub mod Woven
+pub mod WovenParts
 pub mod WrittenSides

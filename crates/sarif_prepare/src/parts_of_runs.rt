@@ -15,7 +15,7 @@ use sarif_runs::OpenedRun;
 use std::alloc::{AllocError, Global};
 
 /// How many results the run has, where it has an array of them.
-fn count_listed(run: &OpenedRun<'_, '_>) -> Option<u32>
+pub(crate) fn count_listed(run: &OpenedRun<'_, '_>) -> Option<u32>
     ensures { result ≡ own_count (placed_of run.now).run }
 {
     if run.has_results() {
@@ -53,7 +53,7 @@ pub(crate) fn current_parts(
 }
 
 /// Returns how many of these are not taken.
-fn count_left(taken: &[bool]) -> usize
+pub(crate) fn count_left(taken: &[bool]) -> usize
     ensures count { result ≡ left_count taken.now }
     ensures few { result ≤ length taken.now }
 {

@@ -171,6 +171,15 @@ static ROWS: [OptionRow; 24] = [
         default: Some("2"),
     },
     OptionRow {
+        id: "once",
+        value: "",
+        help: "Match and count equal results at one place only once, such as those of a\n\
+            header that many files include. Each is written",
+        group: Group::Gate,
+        kind: OptionKind::Flag,
+        default: None,
+    },
+    OptionRow {
         id: "ignore-fingerprint",
         value: "NAME",
         help: "Ignore fingerprints and partial fingerprints with this name, in\n\

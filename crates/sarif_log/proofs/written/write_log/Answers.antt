@@ -33,11 +33,12 @@ returns-clause-log g c = λ runs counted written.
           ∙ ap (λ d. compact_text (log_with d runs))
           (c.in_ok-counts.ensures.gate ∙ ap (λ f. naming places (gate_of f policy sides.without sides.unused)) same);
       gate = record { counts = each; verdict = c.verdict-verdict.ensures ∙ ap (λ f. verdict_of f policy) same; without = refl; unused = refl };
+      named = c.in_ok-counts.ensures.copies;
     }
 
 pub returns-clause-told : goal.returns-clause-told
 returns-clause-told g c = (
   _,
   subst (IsToldBy g.Tell.FnOnce c.args.tell _) c.in_ok-told.was c.text_beside-text.ensures.said,
-  record { counts = refl; without = refl; unused = refl; findings = refl; life = refl },
+  record { counts = refl; without = refl; unused = refl; findings = refl; copies = refl; life = refl },
 )
