@@ -1,1 +1,3 @@
 pub mod AlikeMembers
+pub mod Pairs
+pub mod RecordMembers
