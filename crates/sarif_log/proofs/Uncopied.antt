@@ -1,5 +1,5 @@
 -- If copies are counted, a merge is what it was.
-use Rattle.std.proofs.Common.{◌≡◌, ℕ, Bool, List, length, option_map, Option, Some, None, Result, Ok, Err, IfOk, refl, ◌∙◌, subst}
+use Rattle.std.proofs.Common.{◌≡◌, ℕ, Bool, List, length, option_map, Option, Some, None, Result, Ok, Err, IfOk, refl, ap, ◌∙◌, subst}
 use Rattle.serde_json.specs.Data.{Data}
 use Rattle.sarif_counts.specs.Hits.{Count}
 use Rattle.sarif_model.specs.declared.kinds.Level.{Level}

@@ -24,14 +24,14 @@ IsPreparedIf once version file now before asked prepared =
     IsPreparedAs (written_if once version file now before) (runs_counted_if once version file now before) (copies_if once version now before)
     (runs_without_results (run_values now)) (unused_of file (records_of (counted_if once now))) asked prepared
 
-pub counted_all : (checks : Checks) (file : File) (now before : List Placed) (asked : Option Reporting) (prepared : Prepared) → checks.once ≡ false
+pub counted_all : (checks : Checks) (file : File) (now before : List Placed) (asked : Option Reporting) → checks.once ≡ false → (prepared : Prepared)
     → IsPrepared checks.matching file now before asked prepared → IsPreparedBy checks file now before asked prepared
-counted_all checks file now before asked prepared all h =
+counted_all checks file now before asked all prepared h =
     subst (λ once. IsPreparedIf once checks.matching file now before asked prepared) (sym all) (prepared_all checks.matching file now before asked prepared h)
 
-pub counted_once : (checks : Checks) (file : File) (now before : List Placed) (asked : Option Reporting) (prepared : Prepared) → checks.once ≡ true
+pub counted_once : (checks : Checks) (file : File) (now before : List Placed) (asked : Option Reporting) → checks.once ≡ true → (prepared : Prepared)
     → IsPreparedOnce checks.matching file now before asked prepared → IsPreparedBy checks file now before asked prepared
-counted_once checks file now before asked prepared one h =
+counted_once checks file now before asked one prepared h =
     subst (λ once. IsPreparedIf once checks.matching file now before asked prepared) (sym one) h
 
 pub merge_all : (checks : Checks) (file : File) (bytes : Option (List ℕ)) (policy : Policy) (now before : List Placed) → checks.once ≡ false

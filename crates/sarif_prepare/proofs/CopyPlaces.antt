@@ -6,7 +6,8 @@ use Rattle.serde_json.specs.Data.{Data}
 use Rattle.sarif_model.specs.declared.kinds.Level.{Level}
 use Rattle.sarif_model.specs.declared.kinds.State.{State}
 use Rattle.sarif_model.specs.Run.{present, results_of}
-use Rattle.sarif_log.specs.Internal.Copied.{if_any, marks_of_left, marks_of_parts, masked}
+use Rattle.sarif_log.specs.Copies.{if_any}
+use Rattle.sarif_log.specs.Internal.Copied.{marks_of_left, marks_of_parts, masked}
 use Rattle.sarif_log.specs.Internal.Texts.{count_in_parts, counts_as, own_count, present_results, tallied, ArePartsOf}
 use Rattle.sarif_log.specs.declared.run_parts.RunParts.{RunParts}
 use Rattle.sarif_log.proofs.RunTexts.{run_count}

@@ -1,4 +1,5 @@
 pub mod BaselineSpots
+pub mod Chosen
 pub mod CopyDrafts
 pub mod CopyPlaces
 pub mod FoundDrafts
@@ -15,6 +16,6 @@ pub mod ToldResults
 pub mod ToldRuns
 pub mod ToldSides
 pub mod Untaken
-pub mod Woven
+pub mod WovenLog
 pub mod WovenParts
 pub mod WrittenSides

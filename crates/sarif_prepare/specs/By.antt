@@ -1,5 +1,5 @@
 -- What is written for a merge, whether its copies are counted or not.
-use Rattle.std.specs.Prelude.{Bool, true, false, List, ◌++◌, Option, Some, None}
+use Rattle.std.specs.Prelude.{ℕ, Bool, true, false, List, ◌++◌, Option, Some, None}
 use Rattle.serde_json.specs.Data.{Data}
 use Rattle.sarif_entries.specs.File.{File}
 use Rattle.sarif_findings.specs.declared.reporting.Reporting.{Reporting}
@@ -15,10 +15,12 @@ use Rattle.sarif_match.specs.declared.version.MatchingVersion.{MatchingVersion}
 use Rattle.sarif_once.specs.Once.{without_copies}
 use Rattle.sarif_options.specs.declared.checks.Checks.{Checks}
 use Rattle.sarif_options.specs.declared.policy.Policy.{Policy}
+use Rattle.sarif_prepare.specs.Kept.{merge_of}
 use Rattle.sarif_prepare.specs.Once.{copies_written, current_once, leftover_once}
 use Rattle.sarif_runs.specs.Judging.{records_of, run_values}
 use Rattle.sarif_runs.specs.Placed.{Placed}
 use Rattle.sarif_suppress.specs.Suppressing.{unused_of}
+use Rattle.sarif_upkeep.specs.Merge.{Merge}
 
 -- the runs whose results are matched and counted: those without their copies, if each result counts only once
 abbrev pub counted_if : Bool → List Placed → List Placed
@@ -52,7 +54,7 @@ runs_counted_if once version file current baseline =
 
 -- everything that is written for the merge of these input runs, these baseline runs and this suppression file, and its
 -- findings, as these checks say how results are matched and counted
-pub IsPreparedBy : Checks → File → List Placed → List Placed → Option Reporting → Prepared → Type 0
+abbrev pub IsPreparedBy : Checks → File → List Placed → List Placed → Option Reporting → Prepared → Type 0
 IsPreparedBy checks file current baseline asked prepared =
     IsPreparedAs (written_if checks.once checks.matching file current baseline)
     (runs_counted_if checks.once checks.matching file current baseline)

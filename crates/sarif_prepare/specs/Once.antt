@@ -1,11 +1,10 @@
 -- The merged log whose copies aren't counted: findings alone are matched, and a copy has what its finding has.
-use Rattle.std.specs.Prelude.{ℕ, ◌+◌, Bool, false, List, [], ◌∷◌, ◌++◌, length, take, drop, Option, Some}
+use Rattle.std.specs.Prelude.{Bool, false, List, [], ◌∷◌, ◌++◌, length, take, drop, Option, Some}
 use Rattle.serde_json.specs.Data.{Data}
 use Rattle.sarif_copies.specs.Copies.{copies_of, numbers_of, spread}
 use Rattle.sarif_entries.specs.File.{File}
 use Rattle.sarif_findings.specs.declared.reporting.Reporting.{Reporting}
-use Rattle.sarif_log.specs.Copies.{places_from}
-use Rattle.sarif_log.specs.Internal.Copied.{if_any}
+use Rattle.sarif_log.specs.Copies.{if_any, places_from}
 use Rattle.sarif_log.specs.Internal.Prepared.{IsPreparedAs}
 use Rattle.sarif_log.specs.LogBy.{listing_of, runs_by, runs_without_results, states_of, taken_of}
 use Rattle.sarif_log.specs.MergedRuns.{absent_runs, merged_runs}
@@ -92,7 +91,7 @@ copies_written version current baseline =
 
 -- everything that is written for the merge of these input runs, these baseline runs and this suppression file, matched
 -- by this version without their copies, and its findings; only findings are counted, reported and applied
-pub IsPreparedOnce : MatchingVersion → File → List Placed → List Placed → Option Reporting
+abbrev pub IsPreparedOnce : MatchingVersion → File → List Placed → List Placed → Option Reporting
     → Prepared → Type 0
 IsPreparedOnce version file current baseline asked prepared =
     IsPreparedAs (runs_once version file current baseline)

@@ -115,8 +115,9 @@ fn push_copy<'w, 't, 'a>(
         ++ copy_draft is_copy item.now (result_at (placed_of run.now).run seq)) }
 {
     if is_copy {
-        if let Item::Sound(record) = item {
-            copies.push(Leftover { run, seq, record })?;
+        match item {
+            Item::Sound(record) => copies.push(Leftover { run, seq, record })?,
+            Item::Bad(_) | Item::Skipped => {}
         }
     }
     Ok(())

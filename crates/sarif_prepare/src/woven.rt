@@ -107,7 +107,7 @@ pub(crate) fn weave_logs(
     states: &[Option<State>],
     file: &Suppressions,
 ) -> Result<CurrentWoven, AllocError>
-    requires current { (runs : List Placed) × IsCurrent file.now (without_copies runs) current
+    requires { (runs : List Placed) × IsCurrent file.now (without_copies runs) current
         × AreCurrentCopies file.now runs copies × (length runs ≤ most_runs) }
     ensures woven { IfOk result (λ made. (xs : List Stand) (now before : List Placed)
         → states.now ≡ map Some xs → AreWhole now before
@@ -175,7 +175,7 @@ pub(crate) fn weave_baselines(
     taken: &[bool],
     drafts: Vec<Draft>,
 ) -> Result<LeftWoven, AllocError>
-    requires baselines { (now before : List Placed) × AreWhole now before
+    requires { (now before : List Placed) × AreWhole now before
         × AreBaselines (without_copies before) baselines × AreBaselineCopies before copies }
     ensures { IfOk result (λ made. (now before : List Placed) → AreWhole now before
         → AreBaselines (without_copies before) baselines.entry → AreBaselineCopies before copies

@@ -22,11 +22,11 @@ returns-clause-log g c = λ runs counted written.
     let policy = c.args.options.now.policy in
     let places = places_by sides.copies sides.current sides.baseline in
     let each = λ (s : State) (l : Level) (b : Bool). c.in_ok-counts.ensures.counts s l b ∙ written.counts s l b in
-    let same = counts_same (count_at c.in_ok-counts.counts) (count_of counted) each in
+    let same = counts_same (count_at c.in_ok-counts.field-0.counts) (count_of counted) each in
     let text =
     subst
     (λ r. IfOk r (λ s. (rs : List Data) → map compact_text rs ≡ texts_of_runs sides.current ++ texts_of_left sides.baseline
-    → string_bytes s ≡ compact_text (log_with (view c.in_ok-counts.gate) rs))) c.in_ok-text.was c.text_beside-text.ensures.text in
+    → string_bytes s ≡ compact_text (log_with (view c.in_ok-counts.field-0.gate) rs))) c.in_ok-text.was c.text_beside-text.ensures.text in
     record {
       log =
           c.in_ok-from_string.ensures ∙ text runs written.texts

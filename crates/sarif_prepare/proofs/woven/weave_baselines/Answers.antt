@@ -1,4 +1,4 @@
-use Rattle.std.proofs.Common.{false, length, map, sym, ap, ap₂, ◌∙◌}
+use Rattle.std.proofs.Common.{◌≡◌, false, List, Some, length, map, sym, ap, ap₂, ◌∙◌}
 use Rattle.std.proofs.lemmas.List.{length-map}
 use Rattle.sarif_copies.specs.Copies.{copies_of, numbers_of, spread}
 use Rattle.sarif_once.specs.Once.{copy_marks, marked, without_copies}
@@ -6,15 +6,19 @@ use Rattle.sarif_once.proofs.Marks.{findings_left, marked_each}
 use Rattle.sarif_once.proofs.Parts.{count_left}
 use Rattle.sarif_once.proofs.Spread.{spread_found, spread_long}
 use Rattle.sarif_once.proofs.WovenLists.{marked_long}
+use Rattle.sarif_model.specs.declared.kinds.State.TheVariants.{Absent}
+use Rattle.sarif_model.specs.Run.{present, results_of}
 use Rattle.sarif_read.specs.Unmarked.{unmarked}
+use Rattle.sarif_results.specs.declared.draft.Draft.{Draft}
 use Rattle.sarif_runs.specs.Internal.Opened.{placed_of}
 use Rattle.sarif_runs.specs.Judging.{records_of}
+use Rattle.sarif_runs.specs.Placed.{Placed}
 use Rattle.sarif_prepare.specs.Internal.Apart.{left_counts, total}
 use Rattle.sarif_prepare.specs.Internal.Baselines.{baseline_drafts}
 use Rattle.sarif_prepare.specs.Internal.LeftParts.{present_counts}
 use Rattle.sarif_prepare.proofs.CopyDrafts.{found_before}
 use Rattle.sarif_prepare.proofs.Untaken.{untaken_is}
-use Rattle.sarif_prepare.proofs.Woven.{before_long}
+use Rattle.sarif_prepare.proofs.WovenLog.{before_long}
 use Rattle.sarif_prepare.proofs.WovenParts.{counts_long, left_of_all, members_left, opened_members, total_present}
 use Rattle.sarif_prepare.proofs.woven.weave_baselines.Goals as goal
 
@@ -34,7 +38,7 @@ parts_with-requires c =
     let before = c.requires.1 in
     let copies = c.requires.4 in
     ap length (c.deref-4.ensures.value ∙ c.in_ok-left.ensures) ∙ counts_long c.deref-2.result.now c.deref-3.result.now
-    ∙ ap length (c.deref-2.ensures.value ∙ copies.counts) ∙ length-map before (λ p. _) ∙ sym (count_left (copy_marks before) before)
+    ∙ ap length (c.deref-2.ensures.value ∙ copies.counts) ∙ length-map before (λ (p : Placed). length (present (results_of p.run))) ∙ sym (count_left (copy_marks before) before)
     ∙ sym (ap length c.requires.3.opened) ∙ length-map c.args.baselines.runs.items placed_of
 
 pub weave_left-requires-clause-taken : goal.weave_left-requires-clause-taken
@@ -44,6 +48,21 @@ weave_left-requires-clause-taken c =
     ap length (c.deref-6.ensures.value ∙ c.in_ok-taken.ensures ∙ ap (λ ns. spread false ns c.args.taken.now) (c.deref.ensures.value ∙ copies.numbers))
     ∙ spread_long false (records_of before) c.args.taken.now
     ∙ sym (ap length (c.deref-5.ensures.value ∙ copies.marks) ∙ marked_each (records_of before))
+
+pub weave_left-requires-clause-copied : goal.weave_left-requires-clause-copied
+weave_left-requires-clause-copied c =
+    let before = c.requires.1 in
+    let w = c.requires.2 in
+    let copies = c.requires.4 in
+    let rs = records_of before in
+    let ts = spread false (numbers_of rs) c.args.taken.now in
+    let taken =
+    c.deref-6.ensures.value ∙ c.in_ok-taken.ensures ∙ ap (λ ns. spread false ns c.args.taken.now) (c.deref.ensures.value ∙ copies.numbers) in
+    let marks = c.deref-5.ensures.value ∙ copies.marks in
+    ap length copies.drafts
+    ∙ sym (marked_long (copies_of rs) (baseline_drafts before) ts (before_long c.requires.0 before w ∙ sym (marked_each rs))
+    (spread_long false rs c.args.taken.now ∙ sym (marked_each rs)))
+    ∙ sym (ap₂ (λ ms us. length (marked ms us)) marks taken)
 
 pub returns : goal.returns
 returns c = λ now before w is copies long left.
@@ -74,7 +93,7 @@ returns c = λ now before w is copies long left.
             (found ∙ sym (ap₂ (λ ms us. unmarked (unmarked ms us) (unmarked ms all)) marks taken_all))
             (copies.drafts ∙ sym (ap (λ ms. marked ms all) marks))
             ∙ ap (λ us. unmarked us all) taken_all ∙ sym (untaken_is ts all);
-        states = c.in_ok-states.ensures;
+        states = c.in_ok-states.ensures ∙ ap (λ (ds : List Draft). map (λ _. Some Absent) ds) c.deref-7.ensures.value;
       };
       copies = c.in_ok-drafts.ensures.copies ∙ ap₂ unmarked taken_all marks;
     }

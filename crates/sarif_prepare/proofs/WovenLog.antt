@@ -1,8 +1,7 @@
 -- The log of findings and their copies.
-use Rattle.std.proofs.Common.{◌≡◌, ◌≤◌, ◌+◌, ◌*◌, ◌++◌, ℕ, Bool, false, true, List, Option, Some, map, length, refl, sym, ap, ap₂, subst, ◌∙◌, arith}
+use Rattle.std.proofs.Common.{◌≡◌, ◌≤◌, ◌+◌, ◌++◌, Bool, false, true, List, Some, map, length, refl, sym, ap, ap₂, ◌∙◌, arith}
 use Rattle.std.proofs.lemmas.List.{map-append, length-map}
-use Rattle.std.specs.List.{AllByRecursion, flat_map}
-use Rattle.serde_json.specs.Data.{Data}
+use Rattle.std.specs.List.{flat_map}
 use Rattle.serde_json.specs.Written.{compact_text}
 use Rattle.sarif_copies.specs.Copies.{copies_of, numbers_of, spread}
 use Rattle.sarif_counts.specs.CountOf.{count_of}
@@ -11,7 +10,7 @@ use Rattle.sarif_entries.specs.File.{File}
 use Rattle.sarif_log.specs.Copies.{places_from}
 use Rattle.sarif_log.specs.Internal.Copied.{marks_of_left, masked, places_by}
 use Rattle.sarif_log.specs.Internal.Side.{IsSide}
-use Rattle.sarif_log.specs.Internal.Texts.{left_texts, own_count, present_results, runs_texts, tallied, ArePartsOf}
+use Rattle.sarif_log.specs.Internal.Texts.{left_texts, own_count, present_results, runs_texts, tallied}
 use Rattle.sarif_log.specs.Internal.Written.{AreWrittenWith}
 use Rattle.sarif_log.specs.LogBy.{current_runs, leftover_runs, listing_of, states_of, taken_of}
 use Rattle.sarif_log.specs.MergedRuns.{absent_runs, merged_runs}
@@ -32,26 +31,27 @@ use Rattle.sarif_once.proofs.Marks.{findings_left, marked_each}
 use Rattle.sarif_once.proofs.Spread.{spread_found, spread_long}
 use Rattle.sarif_read.specs.Unmarked.{unmarked}
 use Rattle.sarif_read.proofs.Only.{unmarked_map}
-use Rattle.sarif_results.specs.Drafts.{applied_of, drafts_by, unapplied, IsRun}
+use Rattle.sarif_results.specs.Drafts.{applied_of, unapplied}
 use Rattle.sarif_results.specs.Internal.Judged.{placed_in, IsJudged}
-use Rattle.sarif_results.specs.declared.draft.Draft.{Draft}
 use Rattle.sarif_results.specs.declared.judged.Judged.{Judged}
 use Rattle.sarif_results.proofs.JudgedCounts.{records_of_logs}
 use Rattle.sarif_runs.specs.Judging.{records_of, run_values}
 use Rattle.sarif_runs.specs.Placed.{Placed}
 use Rattle.sarif_prepare.specs.Internal.Apart.{current_drafts}
-use Rattle.sarif_prepare.specs.Internal.Baselines.{baseline_drafts, IsLeft}
+use Rattle.sarif_prepare.specs.Internal.Baselines.{baseline_drafts}
 use Rattle.sarif_prepare.specs.Internal.Leftover.{not_taken}
-use Rattle.sarif_prepare.specs.Internal.Together.{AreTogether}
+use Rattle.sarif_prepare.specs.Internal.Together.{AreTogether, IsPaired}
 use Rattle.sarif_prepare.specs.Internal.Woven.{AreCurrentWoven, AreLeftWoven, AreWhole}
 use Rattle.sarif_prepare.specs.Once.{copies_written, current_once, findings_only, leftover_once, marks_of_absent, marks_of_runs, runs_counted, runs_once}
 use Rattle.sarif_prepare.specs.declared.baselines.Baselines.{Baselines}
 use Rattle.sarif_prepare.specs.declared.halves.Half.{Half}
+use Rattle.sarif_prepare.specs.declared.preparing.Paired.{Paired}
 use Rattle.sarif_prepare.proofs.CopyDrafts.{found_before, found_drafts}
 use Rattle.sarif_prepare.proofs.CopyPlaces.{counted_found, places_before, places_now}
 use Rattle.sarif_prepare.proofs.LeftTexts.{counts, left_total, left_written, long}
 use Rattle.sarif_once.proofs.WovenLists.{found_left}
 use Rattle.sarif_prepare.proofs.Untaken.{untaken_is}
+use Rattle.sarif_prepare.proofs.WrittenSides.{few_left}
 
 -- ---- the runs of both sides
 
@@ -85,13 +85,6 @@ current_long file now before w =
 
 pub before_long : (now before : List Placed) → AreWhole now before → length (baseline_drafts before) ≡ length (records_of before)
 before_long now before w = drafts_long (λ _ own. own) unapplied (records_of before) (present_results (run_values before)) w.baseline_records
-
-few_left : {X : Type 0} (taken : List Bool) (xs : List X) → length (not_taken taken xs) ≤ length xs
-few_left [] [] = omega arith
-few_left [] (x ∷ xs) = omega arith
-few_left (t ∷ taken) [] = omega arith
-few_left (true ∷ taken) (x ∷ xs) = let rest = few_left taken xs in omega (arith, rest)
-few_left (false ∷ taken) (x ∷ xs) = let rest = few_left taken xs in omega (arith, rest)
 
 module _ (file : File) (now before : List Placed) (w : AreWhole now before) (xs : List State) (copies : List Bool) (side : Side)
     (woven : AreCurrentWoven file xs now copies side) where
@@ -225,6 +218,15 @@ module _ (v : MatchingVersion) (file : File) (now before : List Placed) (c : Hal
   taken_same : taken_of v (records_of (without_copies now)) (records_of (without_copies before))
       ≡ taken_of v (findings_only (records_of now)) (findings_only (records_of before))
   taken_same = ap₂ (taken_of v) (findings_left now) (findings_left before)
+
+  -- what matching says of the findings
+  pub states_given : (paired : Paired) → IsPaired v c b paired
+      → paired.states.items ≡ map Some (states_of v (records_of (without_copies now)) (records_of (without_copies before)))
+  states_given paired q = q.states ∙ ap₂ (λ rs qs. map Some (states_of v rs qs)) t.is_current.records t.are_baselines.records
+
+  pub taken_given : (paired : Paired) → IsPaired v c b paired
+      → paired.taken.items ≡ taken_of v (records_of (without_copies now)) (records_of (without_copies before))
+  taken_given paired q = q.taken ∙ ap₂ (taken_of v) t.is_current.records t.are_baselines.records
 
   -- the log, and what it counts
   pub woven_written : (flags : CopyFlags) (side other : Side)
