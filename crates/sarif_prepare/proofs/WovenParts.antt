@@ -1,5 +1,5 @@
 -- The parts of runs without their copies are those of the runs, but for the numbers of their results.
-use Rattle.std.proofs.Common.{◌≡◌, ◌+◌, ℕ, suc, Bool, List, [], ◌∷◌, map, take, drop, length, Option, Some, codes, refl, sym, ap, ap₂, ◌∙◌, arith}
+use Rattle.std.proofs.Common.{◌≡◌, ◌+◌, ℕ, suc, Bool, List, [], ◌∷◌, map, take, drop, length, Option, Some, codes, refl, sym, ap, ap₂, ◌∙◌}
 use Rattle.std.proofs.lemmas.List.{length-append}
 use Rattle.json_parts.specs.Without.{without}
 use Rattle.serde_json.specs.Data.{Data, Members}
@@ -50,8 +50,8 @@ tail_same x y xs ys is = cc
 pub parts_of_all : (all : List RunParts) (ps : List Placed) → map (λ q. members_view q.members.entries) all ≡ map (λ p. bare (members_in p.run)) ps
     → map (λ q. q.results) all ≡ own_counts ps → ArePartsOf own_count all (run_values ps)
 parts_of_all [] [] members results = tt
-parts_of_all [] (p ∷ ps) members results = cc
-parts_of_all (q ∷ all) [] members results = cc
+parts_of_all [] (p ∷ ps) members results = let never : ⊥ = cc in absurd never
+parts_of_all (q ∷ all) [] members results = let never : ⊥ = cc in absurd never
 parts_of_all (q ∷ all) (p ∷ ps) members results = (
   head_same _ _ _ _ members,
   head_same _ _ _ _ results,
@@ -62,8 +62,8 @@ pub left_of_all : (all : List RunParts) (taken : List Bool) (ps : List Placed)
     → map (λ q. members_view q.members.entries) all ≡ map (λ p. bare (members_in p.run)) ps
     → map (λ q. q.results) all ≡ left_counts (present_counts ps) taken → AreLeftParts all taken (run_values ps)
 left_of_all [] taken [] members results = tt
-left_of_all [] taken (p ∷ ps) members results = cc
-left_of_all (q ∷ all) taken [] members results = cc
+left_of_all [] taken (p ∷ ps) members results = let never : ⊥ = cc in absurd never
+left_of_all (q ∷ all) taken [] members results = let never : ⊥ = cc in absurd never
 left_of_all (q ∷ all) taken (p ∷ ps) members results = (
   head_same _ _ _ _ members,
   head_same _ _ _ _ results,

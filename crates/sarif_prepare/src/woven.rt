@@ -1,5 +1,5 @@
 //! Findings and copies in one list again, with what matching says of the findings.
-ghost use Rattle.std.specs.Prelude.{◌≡◌, ◌≤◌, length, map, List, Some, IfOk};
+ghost use Rattle.std.specs.Prelude.{◌≡◌, ◌≤◌, length, map, slice_index_or, List, None, Some, IfOk};
 ghost use Rattle.std.specs.List.{AllByRecursion};
 ghost use Rattle.serde_json.specs.Data.{Data};
 ghost use Rattle.serde_json.specs.View.{members_view};
@@ -51,6 +51,16 @@ fn run_with(alloc: Global, run: OpenedRun<'_, '_>, results: Option<u32>) -> RunP
     make_parts(alloc, run.into_bare(), results)
 }
 
+/// The number of results of the run with this number, or none past the end.
+fn count_at(counts: &[Option<u32>], number: usize) -> Option<u32>
+    ensures { result ≡ slice_index_or counts.now number None }
+{
+    match counts.get(number) {
+        Some(count) => *count,
+        None => None,
+    }
+}
+
 /// The parts of runs that are written with these numbers of results.
 fn parts_with(
     alloc: Global,
@@ -66,7 +76,7 @@ fn parts_with(
     let mut all = Vec::with_capacity(alloc, runs.len())?;
     let mut number = 0;
     for run in runs {
-        all.push(run_with(alloc, run, counts[number]))?;
+        all.push(run_with(alloc, run, count_at(counts, number)))?;
         number += 1;
     }
     Ok(all)

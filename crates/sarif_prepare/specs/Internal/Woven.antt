@@ -44,17 +44,17 @@ pub record AreApart (file : File) (current_runs baseline_runs : List Placed) (sp
   pub baseline_copies : AreBaselineCopies baseline_runs split.baseline_copies
 
 -- all results of these runs of logs, where the findings have these states
-pub record AreCurrentWoven (file : File) (states : List State) (runs : List Placed)
-    (copies : List Bool) (side : Side) : Type 0 where
+pub record AreCurrentWoven (file : File) (found : List State) (runs : List Placed)
+    (marks : List Bool) (side : Side) : Type 0 where
   pub parts : ArePartsOf own_count side.runs.items (run_values runs)
   pub whole : AllByRecursion IsWholeRun side.runs.items
   pub drafts : side.drafts.items ≡ current_drafts file runs
-  pub states : side.states.items ≡ map Some (spread New (numbers_of (records_of runs)) states)
-  pub copies : copies ≡ copies_of (records_of runs)
+  pub states : side.states.items ≡ map Some (spread New (numbers_of (records_of runs)) found)
+  pub copies : marks ≡ copies_of (records_of runs)
 
 -- the unmatched results of these runs of baselines and their copies, where these findings are matched
-pub record AreLeftWoven (taken : List Bool) (runs : List Placed) (copies : List Bool) (side : Side)
+pub record AreLeftWoven (taken : List Bool) (runs : List Placed) (marks : List Bool) (side : Side)
     : Type 0 where
   pub left : IsLeft runs (spread false (numbers_of (records_of runs)) taken) side
-  pub copies : copies
+  pub copies : marks
       ≡ unmarked (spread false (numbers_of (records_of runs)) taken) (copies_of (records_of runs))
