@@ -114,11 +114,12 @@ fn push_copy<'w, 't, 'a>(
         ≡ map leftover_draft copies.old.items
         ++ copy_draft is_copy item.now (result_at (placed_of run.now).run seq)) }
 {
-    if is_copy {
-        match item {
-            Item::Sound(record) => copies.push(Leftover { run, seq, record })?,
-            Item::Bad(_) | Item::Skipped => {}
-        }
+    if !is_copy {
+        return Ok(());
+    }
+    match item {
+        Item::Sound(record) => copies.push(Leftover { run, seq, record })?,
+        Item::Bad(_) | Item::Skipped => {}
     }
     Ok(())
 }

@@ -27,9 +27,9 @@ use crate::copies::{BaselineCopies, CurrentCopies};
 use crate::halves::Half;
 use crate::keeping::list_there;
 use crate::left::{Left, absent_states};
-use crate::parts_of_runs::count_left;
+use crate::parts_of_runs::{count_left, run_with};
 use crate::preparing::CurrentSide;
-use crate::run_parts::{count_without, make_parts};
+use crate::run_parts::count_without;
 use crate::unused::count_unused;
 use sarif_log::{RunParts, Side};
 use sarif_model::State;
@@ -40,16 +40,6 @@ use sarif_suppress::Suppressions;
 use std::alloc::{AllocError, Global};
 
 // ---- the parts of runs
-
-/// The parts of a run that is written with this number of results.
-fn run_with(alloc: Global, run: OpenedRun<'_, '_>, results: Option<u32>) -> RunParts
-    ensures members { members_view result.members.entries
-        ≡ bare (members_in (placed_of run.entry).run) }
-    ensures results { result.results ≡ results }
-    ensures whole { IsWholeRun result }
-{
-    make_parts(alloc, run.into_bare(), results)
-}
 
 /// The number of results of the run with this number, or none past the end.
 fn count_at(counts: &[Option<u32>], number: usize) -> Option<u32>
