@@ -1,18 +1,16 @@
 use Rattle.std.proofs.Common.{◌≡◌, IfOk, map, length, sym, ap, subst, ◌∙◌}
 use Rattle.std.proofs.lemmas.List.{length-map}
-use Rattle.std.specs.List.{All, flat_map}
-use Rattle.sarif_once.specs.Once.{marked}
-use Rattle.sarif_copies.specs.Copies.{copies_of}
+use Rattle.std.specs.List.{All}
 use Rattle.sarif_results.proofs.OutcomeItems.{all_items}
 use Rattle.sarif_results.specs.Internal.Judged.{placed_in}
+use Rattle.sarif_results.specs.Internal.Outcomes.{all_outcomes}
 use Rattle.sarif_runs.proofs.SpotsWithin.{spots_within}
 use Rattle.sarif_runs.specs.Internal.Opened.{placed_of}
 use Rattle.sarif_runs.specs.Internal.Spots.{spots_from, IsSpotOf}
-use Rattle.sarif_runs.specs.Judging.{items_of, records_of}
 use Rattle.sarif_prepare.specs.Internal.Apart.{copy_drafts}
 use Rattle.sarif_prepare.specs.Internal.Leftover.{found_at, leftover_draft}
 use Rattle.sarif_prepare.proofs.BaselineSpots.{all_long}
-use Rattle.sarif_prepare.proofs.CopyDrafts.{copied_before, marks_total, outcomes_many}
+use Rattle.sarif_prepare.proofs.CopyDrafts.{copied_before, outcomes_many}
 use Rattle.sarif_prepare.proofs.copies.draft_copies.Goals as goal
 
 -- the places of all results
@@ -27,7 +25,7 @@ pub list_copies-requires-clause-spots : goal.list_copies-requires-clause-spots
 list_copies-requires-clause-spots g c =
     let placed = placed_in c.args.judged.now in
     ap length (c.deref-3.ensures.value ∙ c.in_ok-spots.ensures ∙ ap (λ rs. spots_from 0 (map placed_of rs)) c.deref.ensures.value)
-    ∙ sym (all_long placed 0) ∙ sym (ap length (all_items c.requires.judged.0 placed)) ∙ length-map _ (λ o. o.item)
+    ∙ sym (all_long placed 0) ∙ sym (ap length (all_items c.requires.judged.0 placed)) ∙ length-map (all_outcomes c.requires.judged.0 placed) (λ o. o.item)
     ∙ sym (ap length (c.deref-4.ensures.value ∙ c.requires.judged.1.outcomes))
 
 pub list_copies-requires-clause-marks : goal.list_copies-requires-clause-marks

@@ -12,7 +12,7 @@ pub split_logs-requires : goal.split_logs-requires
 split_logs-requires g c = (c.args.rules.now.file.now, c.requires.current)
 
 pub split_baselines-requires-clause-judged : goal.split_baselines-requires-clause-judged
-split_baselines-requires-clause-judged g c = (c.args.rules.now.file.now, c.requires.baseline)
+split_baselines-requires-clause-judged g c κs within = (c.args.rules.now.file.now, c.requires.baseline)
 
 pub gather_baselines-requires : goal.gather_baselines-requires
 gather_baselines-requires g c = (c.args.rules.now.file.now, (c.in_ok-rest-2.ensures c.args.rules.now.file.now c.requires.baseline).judged)

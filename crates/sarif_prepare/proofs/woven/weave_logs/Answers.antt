@@ -5,6 +5,7 @@ use Rattle.std.specs.Prelude.{not, is_some}
 use Rattle.sarif_copies.specs.Copies.{copies_of, numbers_of, spread}
 use Rattle.sarif_log.proofs.Sides.{without_results}
 use Rattle.sarif_log.specs.Internal.Texts.{own_count}
+use Rattle.sarif_log.specs.declared.run_parts.RunParts.{RunParts}
 use Rattle.sarif_model.specs.declared.kinds.State.TheVariants.{New}
 use Rattle.sarif_once.specs.Once.{copy_marks, marked, without_copies, woven}
 use Rattle.sarif_once.proofs.Lists.{woven_back}
@@ -14,7 +15,7 @@ use Rattle.sarif_read.specs.Unmarked.{unmarked}
 use Rattle.sarif_runs.specs.Internal.Opened.{placed_of}
 use Rattle.sarif_runs.specs.Judging.{records_of, run_values}
 use Rattle.sarif_runs.specs.Placed.{Placed}
-use Rattle.sarif_prepare.specs.Internal.Apart.{current_drafts, own_counts}
+use Rattle.sarif_prepare.specs.Internal.Apart.{current_drafts}
 use Rattle.sarif_prepare.proofs.CopyDrafts.{found_drafts}
 use Rattle.sarif_prepare.proofs.KeptSides.{states_there}
 use Rattle.sarif_prepare.proofs.WovenLog.{current_long}
@@ -35,9 +36,12 @@ count_without-without-requires c =
     let runs = c.requires.0 in
     let copies = c.requires.2 in
     let held = ap length c.deref-3.ensures.value in
-    let parts = sym (length-map c.in_ok-runs.runs.items (λ p. p.results)) ∙ ap length (c.in_ok-runs.ensures.results ∙ c.deref-2.ensures.value ∙ copies.counts) in
-    let many = length-map runs (λ (p : Placed). own_count p.run) in
-    record { few = omega (arith, held, parts, many, c.requires.3) }
+    let few = c.requires.3 in
+    let same : length c.in_ok-runs.runs.items ≡ length runs =
+    sym (length-map c.in_ok-runs.runs.items (λ (p : RunParts). p.results))
+    ∙ ap length (c.in_ok-runs.ensures.results ∙ c.deref-2.ensures.value ∙ copies.counts)
+    ∙ length-map runs (λ (p : Placed). own_count p.run) in
+    record { few = omega (arith, held, same, few) }
 
 pub returns-clause-woven : goal.returns-clause-woven
 returns-clause-woven c = λ xs now before states w is copies.
