@@ -80,7 +80,7 @@ pub fn is_date(kind: OptionKind) -> bool {
     kind == DATE
 }
 
-static ROWS: [OptionRow; 24] = [
+static ROWS: [OptionRow; 25] = [
     OptionRow {
         id: "log",
         value: "LOG",
