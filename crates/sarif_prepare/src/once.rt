@@ -1,5 +1,5 @@
 //! Matching results where copies aren't counted: findings alone are matched, and a copy has what its finding has.
-ghost use Rattle.std.specs.Prelude.{List, IfOk, IfErr};
+ghost use Rattle.std.specs.Prelude.{false, true, List, IfOk, IfErr};
 ghost use Rattle.sarif_once.specs.Once.{without_copies};
 ghost use Rattle.sarif_prepare.specs.Asked.{reporting_in, upkeep_in};
 ghost use Rattle.sarif_prepare.specs.Internal.Woven.{AreApart};
