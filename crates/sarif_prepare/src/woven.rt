@@ -3,7 +3,6 @@ ghost use Rattle.std.specs.Prelude.{◌≡◌, ◌≤◌, length, map, slice_ind
 ghost use Rattle.std.specs.List.{AllByRecursion};
 ghost use Rattle.serde_json.specs.Data.{Data};
 ghost use Rattle.serde_json.specs.View.{members_view};
-ghost use Rattle.sarif_entries.specs.File.{File};
 ghost use Rattle.sarif_log.specs.Internal.Texts.{IsWholeRun};
 ghost use Rattle.sarif_log.specs.LogBy.{listing_of, runs_without_results};
 ghost use Rattle.sarif_log.specs.MergedRuns.{bare};
