@@ -262,11 +262,10 @@ class Found:
         return first(it for it in texts if it and it != self.rule())
 
     def snippet(self, region):
-        """The lines of a snippet of the place."""
+        """The lines of a snippet of the place. A carriage return at the end of the text ends no line."""
         text = a_text(at(self.physical(), region, "snippet", "text")) or ""
-        lines = text.split("\n")
-        lines = lines if lines[-1] else lines[:-1]
-        return [it.removesuffix("\r") for it in lines]
+        *ended, last = text.split("\n")
+        return [it.removesuffix("\r") for it in ended] + [last] * bool(last)
 
     def code(self, line):
         """Some lines of the code, the index of the hit line among them or None, and the number of the first or None."""
