@@ -318,7 +318,7 @@ def reported(found, policy):
     path = None if uri is None else shown(without_root(as_path(uri), policy.roots())) or None
     line = None if path is None else found.number("startLine")
     is_exact = path is not None and path == without_root(as_path(uri), policy.roots())
-    name = found.name()
+    name, code = found.name(), found.code(line)
     return Reported(
         tool=shown(found.tool),
         rule=shown(found.rule()),
@@ -332,8 +332,8 @@ def reported(found, policy):
         link=link_of(found),
         name=None if name is None else shown(name, MOST_NAME_CHARACTERS),
         address=place_address(policy.link, path, line) if policy.link and is_exact else None,
-        code=one_line(*found.code(line)),
-        code_rows=code_rows(*found.code(line)),
+        code=one_line(*code),
+        code_rows=code_rows(*code),
     )
 
 
