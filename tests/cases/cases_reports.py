@@ -154,13 +154,20 @@ def strange(name, given, **more):
     return Reporting("hostile", name, logs=logs, **more)
 
 
+def template(number):
+    """The template of links of a third of the cases."""
+    turn, rest = divmod(number, 3)
+    return hostile.TEMPLATES[turn % 3] if rest == 1 else None
+
+
 def hostile_logs():
-    for text in hostile.TEXTS:
+    for number, text in enumerate(hostile.TEXTS):
         seen = repr(text if len(text) < 40 else f"{text[:20]}.. of {len(text)}")
-        yield strange(f"{seen} everywhere", hostile.everywhere(text))
+        yield strange(f"{seen} everywhere", hostile.everywhere(text), policy=Policy(link=template(number)))
     parts = (
         ("each uri", hostile.placed()),
         ("each address of a page", hostile.linked()),
+        ("each code", hostile.with_code(0)),
         ("each line and column", hostile.numbered()),
         ("each way to a message", hostile.spoken()),
         ("each link of a message", hostile.bracketed()),
@@ -171,8 +178,13 @@ def hostile_logs():
     for name, given in parts:
         yield strange(name, given)
         for fail_on in ("warning", "none"):
-            policy = Policy(fail_on, 5, root=ROOT_FOLDER)
+            link = hostile.TEMPLATES[0] if fail_on == "none" else None
+            policy = Policy(fail_on, 5, root=ROOT_FOLDER, link=link)
             yield strange(f"{name}, from {fail_on}", given, policy=policy)
+    for link in hostile.TEMPLATES:
+        yield strange(f"each uri linked to {link}", hostile.placed(), policy=Policy("note", link=link))
+    for turn in (20, 60, 100, 140, 180):
+        yield strange(f"each code, the last {turn} first", hostile.with_code(turn))
     for root in ("file:///", "file:///src", "a", "%", "a b", "\u00e9", "a.c", ":a", "x" * 2_000):
         policy = Policy(root=root)
         yield strange(f"each uri without {root[:20]!r}", hostile.placed(), policy=policy)
@@ -222,7 +234,8 @@ def drawn(seed, count):
         before = [logs[0]] * (rng.random() < 0.2) + [makes.log()] * (rng.random() < 0.2)
         root = rng.choice(["", "", ROOT_FOLDER, "a", "%", "./", ("a", ROOT_FOLDER), ("", "src/")])
         level = rng.choice(["error", "warning", "note", "none"])
-        policy = Policy(level, rng.choice([0, 1, 4]), root=root, show="hits" if number % 4 == 3 else "all")
+        show = "hits" if number % 4 == 3 else "all"
+        policy = Policy(level, rng.choice([0, 1, 4]), root=root, show=show, link=template(number))
         name = f"seed {seed}, number {number}"
         yield Reporting("drawn", name, logs=logs, baselines=before, policy=policy)
 

@@ -143,6 +143,23 @@ URIS = [
     "\u200b./a.c",
     "file:///src/./a.c",
     "C:\\a.c",
+    "C:/a.c",
+    "/etc/a.c",
+    "src//a.c",
+    "src/",
+    "src/..",
+    "..",
+    "a:b/c",
+    "src/b:c",
+    "src/a~b-c_d.e+f(g)",
+    "src/%C3%A4%25%22.c",
+    "src/%2e%2e/a.c",
+    "src%2Fa.c",
+    "{line}.c",
+    "%7Bpath%7D/{path}",
+    "a'b\"<c>&d.c",
+    "src/" + "a" * 996,
+    "src/" + "a" * 997,
     " ",
     "",
 ]
@@ -169,8 +186,46 @@ LINKS = [
     1,
     ["https://example.org"],
 ]
+TEMPLATES = [
+    "https://example.org/o/blob/S/{path}#L{line}",
+    "http://example.org:8/{path}",
+    "https://example.org/p/_git/r?path=/{path}&line={line}&lineEnd={line}",
+]
 NUMBERS = [0, 1, -1, 4_294_967_295, 4_294_967_296, 2**64 - 1, -(2**63), True, None, "1", [1], {}]
 OTHERS = [None, True, 0, "", "text", [], {}, [None], {"text": 1}, {"text": None}, {"text": ["a"]}]
+NAMES = ["R", "No <b>", "\nx", "\u200b", " ", "#" * 60, "x" * 99 + "##"]
+NAMES += ["n" * 99, "n" * 100, "n" * 101, "\U0001f600" * 101, "<" * 101, "a" * 5_000, *OTHERS]
+CODES = [
+    "\tf(a|b);",
+    "x\n",
+    "x\n\ty",
+    "\tx\r\n\t\ty\r\n",
+    "a\r\n\r\n  b\r\n",
+    "\n\n  b\n\n",
+    "    a\n\n  b\n\tc",
+    "a\rb\r\r\nc\r",
+    "<b>\n&amp;\n\"'\n##\n#",
+    "</code></pre><script>\n<mark>\n-->\n]]>",
+    "| a | b |\n`c` ``\n<br>",
+    "##vso[task.setvariable variable=a]b\n::error ::owned\n#\u200b#",
+    "\x1b[31m\x00x\n\x7f\x80\n\u202eabc",
+    "a\u2028b\x0bc\x85d\x0ce\n\u00ad\ufeff\ne\u0301",
+    " \t\n \u200b",
+    "1\n2\n3\n4\n5\n6\n7",
+    "\n\n\n\n\n6\n7",
+    "\u00a0a\n\u3000b\n\u2003\n c",
+    "x" * 119 + "\n" + "y" * 120 + "\n" + "z" * 121,
+    " " * 200 + "y" * 121 + "\n" + " " * 199 + "y" * 121,
+    "\t" * 40 + "y\n" + " " * 160 + "z",
+    "\U0001f600" * 121 + "\n" + " " * 121,
+    "a" * 118 + "##\n" + "a" * 119 + "##",
+    "&" * 5_000,
+    "\n".join(map(str, range(2_000))),
+    "\n",
+    "\r\n\r\n",
+    "\r",
+    "",
+]
 
 
 def named(text, uri="a.c", **members):
@@ -179,16 +234,34 @@ def named(text, uri="a.c", **members):
     return {"message": {"text": text}, "locations": [{"physicalLocation": place}], **members}
 
 
+def snippet(line, text):
+    """A region that begins at this line, or without a line, with this code."""
+    region = {"snippet": {"text": text}}
+    return region if line is None else {"startLine": line, **region}
+
+
+def coded(region, around=None, uri="a.c", **members):
+    """An error with this region and the one around it."""
+    place = {"artifactLocation": {"uri": uri}, "region": region}
+    place |= {} if around is None else {"contextRegion": around}
+    return {"message": {"text": "m"}, "level": "error", "locations": [{"physicalLocation": place}], **members}
+
+
 def everywhere(text):
     """A log with this string in each place that a report reads."""
     strings = {text: {"text": text}}
     rules = [{"id": text, "helpUri": f"https://example.org/{text}", "messageStrings": strings}]
+    rules.append({"id": "N", "helpUri": LINKS[1], "name": text})
+    rules.append({"id": "S", "helpUri": LINKS[1], "name": "", "shortDescription": {"text": text}})
+    around = snippet(2, f"  before\n\t{text}\n  {text}\n")
     results = [
         named(text, text, ruleIndex=0),
         named(text, text, ruleId=text, level="error"),
         {"message": {"id": text, "arguments": [text, text]}, "ruleIndex": 0},
         {"message": {"text": "{0} and {1}", "arguments": [text, text]}, "level": "note"},
         {"message": {"text": text, "arguments": [text]}, "kind": "pass"},
+        coded(snippet(3, text), uri=text, ruleIndex=1),
+        coded(snippet(3, f"q\n{text}"), around, ruleIndex=2, level="note"),
     ]
     driver = {"name": text, "rules": rules}
     return log({"tool": {"driver": driver}, "results": results})
@@ -206,8 +279,27 @@ def linked():
     """A log with each address of a rule's help page."""
     rules = [{"id": f"R{number}", "helpUri": link} for number, link in enumerate(LINKS)]
     rules += [{"id": "", "helpUri": LINKS[0]}, {"id": "R", "name": "no page"}]
+    rules += [{"id": "R", "helpUri": LINKS[0], "name": it} for it in NAMES]
+    given = [{"shortDescription": it} for it in OTHERS] + [{"shortDescription": {"text": it}} for it in NAMES]
+    rules += [{"id": "R", "helpUri": LINKS[1], "name": it, **more} for it in ("", 5, "R") for more in given]
     results = [named("m", ruleIndex=number) for number in range(len(rules))]
     return log({"tool": {"driver": {"name": "lint", "rules": rules}}, "results": results})
+
+
+def with_code(turn):
+    """A log with each code as a snippet, around one, and in both, and snippets of other types; as many of the last results
+    as `turn` come first."""
+    results = [coded(snippet(3, it)) for it in CODES]
+    results += [coded(snippet(3, "q"), snippet(line, it)) for it in CODES for line in (1, 3, None)]
+    results += [coded(snippet(None, it), snippet(2, it)) for it in CODES]
+    results += [coded({"startLine": 9}, snippet(5, it)) for it in CODES]
+    lines = [(3, 4), (3, 2), (9, 3), (10, 3), (7, 1), (1, 1), (2**32 - 1, 2**32 - 2), (2**32 - 2, 2**32 - 2)]
+    lines += [(3, it) for it in NUMBERS] + [(it, 3) for it in NUMBERS]
+    results += [coded(snippet(line, "q"), snippet(begin, "a\n\tb\n\t\tc\nd\ne\nf\ng")) for line, begin in lines]
+    odd = [it for other in OTHERS for it in (other, {"startLine": 3, "snippet": other})]
+    results += [coded(snippet(3, "q"), it) for it in odd] + [coded(it, snippet(3, "a\nb")) for it in odd]
+    results += [coded(snippet(3, "a\n\tb"), uri=it) for it in ("", "\u200b", "a/../b")]
+    return log(run("lint", *results[-turn:], *results[:-turn]) if turn else run("lint", *results))
 
 
 def numbered():
@@ -342,11 +434,30 @@ class Drawn:
         return {
             "id": self.rng.choice(["R1", "R2", "", self.text()]),
             **self.members(
-                ("helpUri", 0.6, self.any([*LINKS, "https://example.org/" + self.text()])),
+                ("helpUri", 0.6, self.any([*LINKS, *LINKS[:2] * 10, "https://example.org/" + self.text()])),
+                ("name", 0.3, self.word),
+                ("shortDescription", 0.3, lambda: {"text": self.word()}),
                 ("messageStrings", 0.6, self.strings),
                 ("defaultConfiguration", 0.3, self.any([{"level": "error"}, {"level": "note"}])),
             ),
         }
+
+    def word(self):
+        return self.rng.choice(["R1", self.text(), self.text(), *self.rng.sample(NAMES, 2)])
+
+    def snippet(self):
+        """A snippet that is mostly of some lines, with or without an end."""
+        if self.chance(0.1):
+            return self.rng.choice(OTHERS)
+        if self.chance(0.4):
+            return {"text": self.rng.choice(CODES)}
+        lines = [self.any(["", " ", "\t", "  "])() + self.text() for _ in range(self.rng.randint(1, 6))]
+        return {"text": self.rng.choice(["\n", "\n", "\r\n"]).join([*lines, *[""] * self.chance(0.5)])}
+
+    def around(self):
+        numbers = self.any([*NUMBERS, *[1, 2, 3, 75, 76, 77, 78] * 5])
+        region = self.members(("startLine", 0.8, numbers), ("snippet", 0.9, self.snippet))
+        return self.rng.choice(OTHERS) if self.chance(0.1) else region
 
     def component(self):
         rules = [self.rule() for _ in range(self.rng.randint(0, 3))]
@@ -364,10 +475,11 @@ class Drawn:
         uri = lambda: self.rng.choice([*URIS, self.text()])
         index = [("index", 0.4, lambda: self.rng.randrange(-1, artifacts))]
         artifact = self.members(("uri", 0.7, uri), ("uriBaseId", 0.1, lambda: "S"), *index)
-        numbers = self.any([*NUMBERS, 1, 2, 77])
-        region = self.members(("startLine", 0.9, numbers), ("startColumn", 0.8, numbers))
+        numbers = self.any([*NUMBERS, *[1, 2, 77] * 3])
+        given = [("startLine", 0.9, numbers), ("startColumn", 0.8, numbers), ("snippet", 0.6, self.snippet)]
+        region = self.members(*given)
         region = self.rng.choice(OTHERS) if self.chance(0.05) else region
-        physical = {"artifactLocation": artifact, "region": region}
+        physical = {"artifactLocation": artifact, "region": region, **self.members(("contextRegion", 0.4, self.around))}
         return [{"physicalLocation": physical}] if self.chance(0.95) else []
 
     def reference(self, components):

@@ -262,11 +262,10 @@ class Found:
         return first(it for it in texts if it and it != self.rule())
 
     def snippet(self, region):
-        """The lines of a snippet of the place."""
+        """The lines of a snippet of the place. A carriage return at the end of the text ends no line."""
         text = a_text(at(self.physical(), region, "snippet", "text")) or ""
-        lines = text.split("\n")
-        lines = lines if lines[-1] else lines[:-1]
-        return [it.removesuffix("\r") for it in lines]
+        *ended, last = text.split("\n")
+        return [it.removesuffix("\r") for it in ended] + [last] * bool(last)
 
     def code(self, line):
         """Some lines of the code, the index of the hit line among them or None, and the number of the first or None."""
@@ -319,7 +318,7 @@ def reported(found, policy):
     path = None if uri is None else shown(without_root(as_path(uri), policy.roots())) or None
     line = None if path is None else found.number("startLine")
     is_exact = path is not None and path == without_root(as_path(uri), policy.roots())
-    name = found.name()
+    name, code = found.name(), found.code(line)
     return Reported(
         tool=shown(found.tool),
         rule=shown(found.rule()),
@@ -333,8 +332,8 @@ def reported(found, policy):
         link=link_of(found),
         name=None if name is None else shown(name, MOST_NAME_CHARACTERS),
         address=place_address(policy.link, path, line) if policy.link and is_exact else None,
-        code=one_line(*found.code(line)),
-        code_rows=code_rows(*found.code(line)),
+        code=one_line(*code),
+        code_rows=code_rows(*code),
     )
 
 
