@@ -13,8 +13,13 @@ import sys
 from reference_arguments import NoArguments, Unread, replaced
 from reference_entries import read_rules
 from reference_json import Fault, compact, read_json, stripped
+<<<<<<< ours
 from reference_life import Known, PastLimit, Renewed, failed, file_of, happened, unused
 from reference_matching import has_evidence, partners, region_and_snippet, state
+=======
+from reference_life import Known, PastLimit, Renewed, failed, file_of, unused
+from reference_matching import fields, has_evidence, partners, region_and_snippet, state
+>>>>>>> theirs
 from reference_members import KINDS, LEVELS, STATES, STATUSES, guid, index, objects, of_kind, one_of, texts
 
 MOST_LOGS = 1_000
@@ -183,7 +188,7 @@ class Record:
         self.level = head.level(self.kind, own, descriptor, invocation)
         self.place = self.placed(head, location, artifact)
         self.region, self.snippet = None, None
-        if checks.version == 3:
+        if checks.version == 3 or checks.once:
             self.region, self.snippet = region_and_snippet(result, self.place)
 
     def status(self, suppression):
@@ -246,8 +251,8 @@ class Policy:
 class Checks:
     """What is required of runs beyond the form of a log, and what is compared of their results."""
 
-    def __init__(self, require_success=False, allow_external=False, version=2, ignored=()):
-        self.require_success, self.allow_external = require_success, allow_external
+    def __init__(self, require_success=False, allow_external=False, version=2, ignored=(), once=False):
+        self.require_success, self.allow_external, self.once = require_success, allow_external, once
         self.version, self.ignored = version, set(ignored)
 
     def kept(self, members):
@@ -261,6 +266,7 @@ class Finding:
     def __init__(self, run, value, record):
         self.run, self.value, self.record = run, value, record
         self.state, self.list, self.statuses = "absent", own_of(value), list(record.held)
+        self.first = self
 
     def suppress(self, entry):
         self.statuses.append(entry.status)
@@ -273,6 +279,15 @@ class Finding:
     def annotated(self):
         marks = {"level": self.record.level, "baselineState": self.state, "suppressions": self.list}
         return {**self.value, **marks}
+
+
+def findings_of(results):
+    """The results that are no copies. Each copy gets its finding: the first result that is alike to it."""
+    firsts = {}
+    for result in results:
+        if (alike := fields(result.record)) is not None:
+            result.first = firsts.setdefault(alike, result)
+    return [it for it in results if it.first is it]
 
 
 def own_of(value):
@@ -299,9 +314,11 @@ class Merge:
         self.file = file_of(suppress)
         self.inputs = [run for log in logs for run in log]
         self.before = [run for log in baselines for run in log]
-        self.current = self.findings(logs, "log", False)
-        self.baseline = self.findings(baselines, "baseline", True)
+        self.every, self.every_before = self.findings(logs, "log", False), self.findings(baselines, "baseline", True)
+        one = findings_of if self.checks.once else list
+        self.current, self.baseline = one(self.every), one(self.every_before)
         self.decide()
+        self.spread()
         self.count()
 
     def read(self, name, source):
@@ -368,6 +385,30 @@ class Merge:
         self.unused = len(self.entries) - len(used)
         self.absent = [finding for j, finding in enumerate(self.baseline) if j not in found]
 
+    def spread(self):
+        """Gives copies what their findings have."""
+        for copy in self.every:
+            if copy.first is not copy:
+                copy.state = copy.first.state
+                for entry in self.entries:
+                    if entry.matches(copy.first.record):
+                        copy.suppress(entry)
+        left = {id(finding) for finding in self.absent}
+        self.every_absent = [it for it in self.every_before if id(it.first) in left]
+
+    def copies(self):
+        """The run and the number of each copy in the merged log."""
+        found = []
+        for number, results in enumerate(self.results_of_runs()):
+            found += [[number, at] for at, it in enumerate(results) if it.first is not it]
+        return found
+
+    def results_of_runs(self):
+        """The results of each run of the merged log."""
+        of = lambda run, results: [it for it in results if it.run is run]
+        absent = [of(run, self.every_absent) for run in self.before]
+        return [of(run, self.every) for run in self.inputs] + [it for it in absent if it]
+
     def count(self):
         self.counts = {state: {"active": [0] * 4, "suppressed": [0] * 4} for state in STATES}
         for finding in self.merged():
@@ -379,7 +420,7 @@ class Merge:
         self.without = sum(run.get("results") is None for run in self.inputs)
 
     def merged(self):
-        """The results of the merged log, in its order."""
+        """The findings of the merged log, in its order."""
         return [*self.current, *self.absent]
 
     def written(self, run, findings):
@@ -389,9 +430,9 @@ class Merge:
 
     def text(self):
         """The merged log."""
-        runs = [self.written(run, self.current) for run in self.inputs]
-        absent = {id(finding.run) for finding in self.absent}
-        runs += [self.written(run, self.absent) for run in self.before if id(run) in absent]
+        runs = [self.written(run, self.every) for run in self.inputs]
+        absent = {id(finding.run) for finding in self.every_absent}
+        runs += [self.written(run, self.every_absent) for run in self.before if id(run) in absent]
         gate = {
             "counts": self.counts,
             "failOn": self.policy.fail_on,
@@ -402,6 +443,8 @@ class Merge:
             "unusedSuppressions": self.unused,
             "verdict": self.verdict,
         }
+        if self.checks.once:
+            gate["copies"] = self.copies()
         return compact({"properties": {"gate": gate}, "runs": runs, "version": "2.1.0"})
 
     def summary(self):
@@ -428,8 +471,13 @@ def check_number(logs, baselines):
 USAGE = """Usage: sarif_gate [--baseline F]... [--suppress F] [--today N] [--workers N]
     [--fail-on L] [--states LIST] [--max N] [--suppress-out F] [--accept] [--prune]
     [--reason TEXT] [--until N] [--unused F] [--known F] [--adopt] [--require-success]
+<<<<<<< ours
     [--allow-external-properties] [--matching N] [--ignore-fingerprint NAME]... [--explain] --out F
     LOG... [@FILE]...
+=======
+    [--allow-external-properties] [--matching N] [--ignore-fingerprint NAME]... [--once]
+    --out F LOG... [@FILE]...
+>>>>>>> theirs
 """
 
 
@@ -443,7 +491,11 @@ class Usage(Exception):
 
 RANGES = {"today": (10000101, 99991231), "workers": (1, 64), "max": (0, 2**32 - 1), "matching": (2, 3)}
 VALUES = ("suppress", "out", "fail-on", "states", "suppress-out", "reason", "until", "unused", "known")
+<<<<<<< ours
 FLAGS = ("accept", "prune", "adopt", "explain", "require-success", "allow-external-properties")
+=======
+FLAGS = ("accept", "prune", "adopt", "require-success", "allow-external-properties", "once")
+>>>>>>> theirs
 # Only their names count here: reference_reports.py makes the reports.
 REPORTS = ("text", "github", "markdown", "gitlab", "html", "junit", "azure")
 
@@ -473,7 +525,7 @@ class Request:
         states = self.given.get("states", ("new", "updated"))
         self.policy = Policy(self.given.get("fail-on", "error"), self.given.get("max", 0), states)
         flags = [name in self.given for name in ("require-success", "allow-external-properties")]
-        self.checks = Checks(*flags, self.given.get("matching", 2), self.ignored)
+        self.checks = Checks(*flags, self.given.get("matching", 2), self.ignored, "once" in self.given)
 
     def option(self, word, words):
         name, equals, value = word.removeprefix("--").partition("=")
@@ -663,8 +715,13 @@ class Outputs:
             raise Refused(past.place, past.cause) from None
         if "unused" in given:
             self.files.append(("unused report", given["unused"], unused(merge)))
+<<<<<<< ours
         if "explain" in given:
             self.lines += happened(merge)
+=======
+        if merge.checks.once:
+            self.lines.append(f"sarif_gate: {len(merge.copies())} copies\n")
+>>>>>>> theirs
 
     def add(self, place, name, made):
         self.files.append((place, name, made.text))

@@ -142,6 +142,15 @@ def partners(current, baseline, version=2, missing=()):
     return found
 
 
+def fields(record):
+    """Each field of a result with a URI and a region, or None. Results with equal fields are alike."""
+    if record.place[0] is None or record.region is None:
+        return None
+    members = tuple(sorted(record.full.items())), tuple(sorted(record.partial.items()))
+    said = record.tool, record.rule, record.kind, record.level, record.message, record.place, record.guid
+    return (*said, *members, tuple(record.held), tuple(record.region), record.snippet)
+
+
 def is_same(record, other):
     """Whether kind, level, message and place are equal."""
     parts = lambda it: (it.kind, it.level, it.message, it.place)

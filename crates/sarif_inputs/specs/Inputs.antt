@@ -1,5 +1,5 @@
 -- What a merge is given, and the runs that can be read from it.
-use Rattle.std.specs.Prelude.{ℕ, ◌+◌, Bool, true, false, List, [], ◌∷◌, ◌++◌, Option, Result, Ok, Err}
+use Rattle.std.specs.Prelude.{ℕ, ◌+◌, ◌||◌, Bool, true, false, List, [], ◌∷◌, ◌++◌, Option, Result, Ok, Err}
 use Rattle.std.specs.List.{flat_map}
 use Rattle.serde_json.specs.Data.{Data}
 use Rattle.sarif_options.specs.declared.checks.Checks.{Checks}
@@ -57,10 +57,13 @@ abbrev pub looks_at_regions : MatchingVersion → Bool
 looks_at_regions Two = false
 looks_at_regions Three = true
 
--- what the records of results have
+-- what the records of results have: regions and snippets, if matching reads them or copies aren't counted
 abbrev pub record_options : Checks → RecordOptions
 record_options checks =
-    record { regions = looks_at_regions checks.matching; ignored = checks.ignored }
+    record {
+      regions = looks_at_regions checks.matching || checks.once;
+      ignored = checks.ignored;
+    }
 
 -- how the runs of this source are read
 abbrev pub run_options : Checks → Source → RunOptions

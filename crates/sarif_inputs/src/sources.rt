@@ -162,7 +162,7 @@ fn record_options<'o>(checks: &'o Checks) -> RecordOptions<'o>
     ensures { result ≡ said.record_options checks.now }
 {
     RecordOptions {
-        regions: looks_at_regions(checks.matching),
+        regions: looks_at_regions(checks.matching) || checks.once,
         ignored: IgnoredNames::new(checks.ignored.as_slice()),
     }
 }

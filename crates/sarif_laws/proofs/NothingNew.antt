@@ -178,7 +178,7 @@ module _ (inputs : Inputs) (policy : Policy) (knowing : Knowing) (known : List �
   runs = runs_known (merge_in inputs policy) knowing
 
   options_same : record_options later.checks ≡ record_options inputs.checks
-  options_same = λ i. record { regions = looks_at_regions (next.matching i); ignored = next.ignored i }
+  options_same = λ i. record { regions = looks_at_regions (next.matching i) || next.once i; ignored = next.ignored i }
 
   now_own : AllByRecursion IsOfOne (known_now (merge_in inputs policy) (adopts knowing))
   now_own =

@@ -30,6 +30,7 @@ pub record IsNextWith (inputs : Inputs) (known : List ℕ) (later : Inputs) : Ty
   pub logs : later.logs ≡ inputs.logs
   pub baseline : later.baselines ≡ known ∷ []
   pub matching : later.checks.matching ≡ inputs.checks.matching
+  pub once : later.checks.once ≡ inputs.checks.once
   pub ignored : later.checks.ignored ≡ inputs.checks.ignored
   pub faultless : faults_of later ≡ []
 

@@ -1,5 +1,5 @@
 -- If copies are counted, a merge is what it was.
-use Rattle.std.proofs.Common.{◌≡◌, ℕ, Bool, List, length, option_map, Option, Some, None, Result, Ok, Err, IfOk, refl, ◌∙◌, subst}
+use Rattle.std.proofs.Common.{◌≡◌, ℕ, Bool, List, length, option_map, Option, Some, None, Result, Ok, Err, IfOk, refl, ap, ◌∙◌, subst}
 use Rattle.serde_json.specs.Data.{Data}
 use Rattle.sarif_counts.specs.Hits.{Count}
 use Rattle.sarif_model.specs.declared.kinds.Level.{Level}
@@ -97,4 +97,5 @@ merged_as prepared policy made log findings = λ runs counted places bare idle a
       (subst (λ n. IsLogWith runs counted places policy n prepared.unused made) h.without
       (subst (λ ps. IsLogWith runs counted ps policy prepared.without prepared.unused made) h.named (log runs counted h.written)));
   told = findings ∙ h.told;
+  copies = (log runs counted h.written).named ∙ ap (option_map length) h.named;
 }

@@ -41,3 +41,8 @@ places_in run n (mark ∷ marks) = place_if mark run n (places_in run (n + 1) ma
 abbrev pub places_from : ℕ → List (List Bool) → List CopyPlace
 places_from run [] = []
 places_from run (marks ∷ more) = places_in run 0 marks ++ places_from (run + 1) more
+
+-- the marks of a run in front of those of others, if it has any
+abbrev pub if_any : List Bool → List (List Bool) → List (List Bool)
+if_any [] more = more
+if_any (mark ∷ marks) more = (mark ∷ marks) ∷ more

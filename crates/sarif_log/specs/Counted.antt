@@ -1,5 +1,5 @@
 -- What assembling a merged log gives whose copies aren't counted.
-use Rattle.std.specs.Prelude.{◌≡◌, ℕ, List, Option}
+use Rattle.std.specs.Prelude.{◌≡◌, ℕ, List, Option, length, option_map}
 use Rattle.serde_json.specs.Data.{Data}
 use Rattle.serde_json.specs.Written.{compact_text}
 use Rattle.sarif_counts.specs.CountOf.{count_of}
@@ -19,9 +19,11 @@ pub record IsLogWith (runs counted : List Data) (places : Option (List CopyPlace
   pub log : merged.log
       ≡ compact_text (log_with (naming places (gate_of (count_of counted) policy without unused)) runs)
   pub gate : HasGate counted policy without unused merged
+  pub named : merged.copies ≡ option_map length places
 
 -- such a merge, with the findings of the runs that are counted, for its reports
 pub record IsMergedAs (runs counted : List Data) (places : Option (List CopyPlace)) (policy : Policy)
     (without unused : ℕ) (asked : Option Reporting) (merged : Merged) : Type 0 where
   pub written : IsLogWith runs counted places policy without unused merged
   pub told : merged.findings.items ≡ told_of asked counted
+  pub copies : merged.copies ≡ option_map length places

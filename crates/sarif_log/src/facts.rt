@@ -15,6 +15,8 @@ pub struct Facts<'m> {
     pub expired: u32,
     /// The findings of the results, in the order of the log; empty if none were requested.
     pub findings: &'m Vec<Finding>,
+    /// How many copies the gate names, if copies aren't counted.
+    pub copies: Option<u64>,
     /// What is for later merges.
     pub life: &'m Life,
 }

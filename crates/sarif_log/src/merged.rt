@@ -20,6 +20,8 @@ pub struct Merged {
     pub expired: u32,
     /// The findings of its results, in the order of the log; empty if none were requested.
     pub findings: Vec<Finding>,
+    /// How many copies its gate names, if copies aren't counted.
+    pub copies: Option<u64>,
     /// What is for later merges.
     pub life: Life,
 }

@@ -1,5 +1,5 @@
 //! Writing the log: its gate and its text.
-ghost use Rattle.std.specs.Prelude.{◌≡◌, ◌+◌, ◌++◌, Bool, List, IfOk, Ok, false, map, option_map, string_bytes};
+ghost use Rattle.std.specs.Prelude.{◌≡◌, ◌+◌, ◌++◌, Bool, List, IfOk, Ok, false, length, map, option_map, string_bytes};
 ghost use Rattle.serde_json.specs.Data.{Data};
 ghost use Rattle.serde_json.specs.View.{view};
 ghost use Rattle.serde_json.specs.Written.{compact_text, has_float};
@@ -78,6 +78,24 @@ fn named_gate(
     name_if(alloc, gate, places)
 }
 
+/// How many of these there are, if there is a list of them.
+fn count_places(places: &Option<Vec<CopyPlace>>) -> Option<u64>
+    ensures { result ≡ option_map length (option_map (λ list. list.items) places.now) }
+{
+    match places {
+        Some(list) => Some(list.len() as u64),
+        None => None,
+    }
+}
+
+/// What is known of a log before its text is made.
+#[derive(Drop)]
+struct Weighed {
+    counts: Counts,
+    gate: Value,
+    copies: Option<u64>,
+}
+
 /// The counts of the results that are written, without the copies where it is known which they are, and the gate.
 #[tactic(auto, using(crate::proofs::Uncopied::flags_are))]
 fn weigh<R: Threads + Sync>(
@@ -85,16 +103,18 @@ fn weigh<R: Threads + Sync>(
     alloc: Global,
     prepared: &Prepared,
     options: &Options,
-) -> Result<(Counts, Value), AllocError>
-    ensures counts { IfOk result (λ made. (s : Stand) (l : Grade) (b : Bool) → count_at made.0 s l b
+) -> Result<Weighed, AllocError>
+    ensures counts { IfOk result (λ made. (s : Stand) (l : Grade) (b : Bool) → count_at made.counts s l b
         ≡ tallied prepared.now.current.drafts.items
         (counted_if (current_marks prepared.now.copies) prepared.now.current.states.items) s l b
         + tallied prepared.now.baseline.drafts.items
         (counted_if (baseline_marks prepared.now.copies) prepared.now.baseline.states.items) s l b) }
-    ensures gate { IfOk result (λ made. view made.1
+    ensures gate { IfOk result (λ made. view made.gate
         ≡ naming (places_by prepared.now.copies prepared.now.current prepared.now.baseline)
-        (gate_of (count_at made.0) options.now.policy prepared.now.without prepared.now.unused)) }
-    ensures whole { IfOk result (λ made. has_float (view made.1) ≡ false) }
+        (gate_of (count_at made.counts) options.now.policy prepared.now.without prepared.now.unused)) }
+    ensures whole { IfOk result (λ made. has_float (view made.gate) ≡ false) }
+    ensures copies { IfOk result (λ made. made.copies ≡ option_map length
+        (places_by prepared.now.copies prepared.now.current prepared.now.baseline)) }
 {
     let Prepared {
         current,
@@ -107,7 +127,12 @@ fn weigh<R: Threads + Sync>(
     let counts = count_sides(rt, alloc, current, baseline, copies, options.workers)?;
     let places = list_places(alloc, current, baseline, copies)?;
     let gate = named_gate(alloc, &counts, &options.policy, *without, *unused, &places)?;
-    Ok((counts, gate))
+    let copies = count_places(&places);
+    Ok(Weighed {
+        counts,
+        gate,
+        copies,
+    })
 }
 
 /// Returns the log of what was prepared, with its gate, with what is for later merges, and what `tell` returns for
@@ -134,7 +159,11 @@ pub(crate) fn write_log<
     ensures life { IfOk result (λ made. made.0.life ≡ prepared.life) }
     ensures told { IfOk result (λ made. IsMadeBy Tell.FnOnce tell made.0 (Ok made.1)) }
 {
-    let (counts, gate) = weigh(rt, alloc, &prepared, options)?;
+    let Weighed {
+        counts,
+        gate,
+        copies,
+    } = weigh(rt, alloc, &prepared, options)?;
     let verdict = verdict(&counts, &options.policy);
     let Prepared {
         current,
@@ -153,6 +182,7 @@ pub(crate) fn write_log<
         unused,
         expired,
         findings: &findings,
+        copies,
         life: &life,
     };
     let say = move || -> Result<B, AllocError>
@@ -171,6 +201,7 @@ pub(crate) fn write_log<
         unused,
         expired,
         findings,
+        copies,
         life,
     };
     Ok((merged, told?))

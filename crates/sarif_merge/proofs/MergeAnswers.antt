@@ -10,7 +10,6 @@ use Rattle.json.specs.Token.{Token}
 use Rattle.json_parts.specs.declared.indexing.IndexFault.{IndexFault}
 use Rattle.sarif_inputs.specs.Internal.Together.{AreIndexed}
 use Rattle.json_parts.specs.Mark.{without_mark}
-use Rattle.sarif_match.specs.declared.version.MatchingVersion.{MatchingVersion}
 use Rattle.sarif_entries.specs.File.{File}
 use Rattle.sarif_suppress.specs.Suppressing.{unused_of}
 use Rattle.sarif_model.specs.declared.merge_fault.MergeFault.{MergeFault}
@@ -23,9 +22,14 @@ use Rattle.sarif_runs.specs.Judging.{faults_of_runs, records_of, run_faults, run
 use Rattle.sarif_runs.specs.Placed.{Placed}
 use Rattle.sarif_log.specs.declared.merged.Merged.{Merged}
 use Rattle.sarif_log.specs.declared.prepared.Prepared.{Prepared}
-use Rattle.sarif_log.specs.Assembled.{IsMergedBy}
-use Rattle.sarif_log.specs.Internal.Prepared.{IsPrepared}
-use Rattle.sarif_log.specs.LogBy.{leftover_runs, runs_by, runs_without_results}
+use Rattle.sarif_log.specs.Copies.{naming}
+use Rattle.sarif_log.specs.Counted.{IsMergedAs}
+use Rattle.sarif_log.specs.Internal.Prepared.{IsPreparedAs}
+use Rattle.sarif_log.specs.LogBy.{runs_without_results}
+use Rattle.sarif_log.specs.declared.copies.CopyPlace.{CopyPlace}
+use Rattle.sarif_options.specs.declared.checks.Checks.{Checks}
+use Rattle.sarif_prepare.specs.By.{copies_if, counted_if, left_if, merge_by, runs_counted_if, written_if, IsPreparedBy}
+use Rattle.serde_json.specs.Data.{Data}
 use Rattle.sarif_model.specs.FirstFault.{first}
 use Rattle.sarif_inputs.specs.Faults.{number_faults}
 use Rattle.sarif_entries.specs.Given.{file_or_none}
@@ -34,7 +38,7 @@ use Rattle.sarif_inputs.specs.Inputs.{Inputs, numbered, placed}
 use Rattle.sarif_counts.specs.declared.life.Life.{Life}
 use Rattle.sarif_options.specs.declared.upkeep.Upkeep.{Upkeep}
 use Rattle.sarif_upkeep.specs.Life.{life_faults}
-use Rattle.sarif_prepare.specs.Kept.{merge_of, IsKept}
+use Rattle.sarif_prepare.specs.Kept.{IsKept}
 use Rattle.sarif_merge.specs.Merged.{IsMerged}
 use Rattle.sarif_merge.specs.MergedLog.{file_in}
 use Rattle.sarif_merge.specs.Internal.Prepared.{IsPreparedFor}
@@ -42,47 +46,59 @@ use Rattle.sarif_model.specs.Limits.{most_sources}
 
 -- ---- what is assembled
 
-pub same_runs : (v : MatchingVersion) (file : File) (now before xs ys : List Placed) (asked : Option Reporting) (prepared : Prepared)
-    → IsPrepared v file now before asked prepared → now ≡ xs → before ≡ ys → IsPrepared v file xs ys asked prepared
+pub same_runs : (v : Checks) (file : File) (now before xs ys : List Placed) (asked : Option Reporting) (prepared : Prepared)
+    → IsPreparedBy v file now before asked prepared → now ≡ xs → before ≡ ys → IsPreparedBy v file xs ys asked prepared
 same_runs v file now before xs ys asked prepared h e f =
-    subst (λ k. IsPrepared v file xs k asked prepared) f (subst (λ k. IsPrepared v file k before asked prepared) e h)
+    subst (λ k. IsPreparedBy v file xs k asked prepared) f (subst (λ k. IsPreparedBy v file k before asked prepared) e h)
 
 -- what is for later merges, of the same runs
-pub same_kept : (v : MatchingVersion) (file : File) (bytes : Option (List ℕ)) (policy : Policy) (now before xs ys : List Placed) (upkeep : Option Upkeep) (life : Life)
-    → IsKept (merge_of v file bytes policy now before) upkeep life → now ≡ xs → before ≡ ys → IsKept (merge_of v file bytes policy xs ys) upkeep life
+pub same_kept : (v : Checks) (file : File) (bytes : Option (List ℕ)) (policy : Policy) (now before xs ys : List Placed) (upkeep : Option Upkeep) (life : Life)
+    → IsKept (merge_by v file bytes policy now before) upkeep life → now ≡ xs → before ≡ ys → IsKept (merge_by v file bytes policy xs ys) upkeep life
 same_kept v file bytes policy now before xs ys upkeep life h e f =
-    subst (λ k. IsKept (merge_of v file bytes policy xs k) upkeep life) f (subst (λ k. IsKept (merge_of v file bytes policy k before) upkeep life) e h)
+    subst (λ k. IsKept (merge_by v file bytes policy xs k) upkeep life) f (subst (λ k. IsKept (merge_by v file bytes policy k before) upkeep life) e h)
 
-pub same_large : (v : MatchingVersion) (file : File) (bytes : Option (List ℕ)) (policy : Policy) (now before xs ys : List Placed) (upkeep : Option Upkeep) (fault : MergeFault)
-    → first (life_faults (merge_of v file bytes policy now before) upkeep) ≡ Some fault → now ≡ xs → before ≡ ys
-    → first (life_faults (merge_of v file bytes policy xs ys) upkeep) ≡ Some fault
+pub same_large : (v : Checks) (file : File) (bytes : Option (List ℕ)) (policy : Policy) (now before xs ys : List Placed) (upkeep : Option Upkeep) (fault : MergeFault)
+    → first (life_faults (merge_by v file bytes policy now before) upkeep) ≡ Some fault → now ≡ xs → before ≡ ys
+    → first (life_faults (merge_by v file bytes policy xs ys) upkeep) ≡ Some fault
 same_large v file bytes policy now before xs ys upkeep fault h e f =
-    subst (λ k. first (life_faults (merge_of v file bytes policy xs k) upkeep) ≡ Some fault) f
-    (subst (λ k. first (life_faults (merge_of v file bytes policy k before) upkeep) ≡ Some fault) e h)
+    subst (λ k. first (life_faults (merge_by v file bytes policy xs k) upkeep) ≡ Some fault) f
+    (subst (λ k. first (life_faults (merge_by v file bytes policy k before) upkeep) ≡ Some fault) e h)
 
 -- what is assembled of what was prepared for these inputs
 pub assembled_is : (inputs : Inputs) (policy : Policy) (asked : Option Reporting) (upkeep : Option Upkeep) (prepared : Prepared) (merged : Merged)
     → IsPreparedFor inputs policy asked upkeep prepared
+<<<<<<< ours
     → ((v : MatchingVersion) (file : File) (now before : List Placed) (told : Option Reporting) → IsPrepared v file now before told prepared
     → IsMergedBy v file now before policy told merged)
     → merged.expired ≡ prepared.expired
     → IsMerged inputs policy asked merged
 assembled_is inputs policy asked upkeep prepared merged ready assembled past =
+=======
+    → ((runs counted : List Data) (places : Option (List CopyPlace)) (bare idle : ℕ) (told : Option Reporting)
+    → IsPreparedAs runs counted places bare idle told prepared → IsMergedAs runs counted places policy bare idle told merged)
+    → IsMerged inputs policy asked merged
+assembled_is inputs policy asked upkeep prepared merged ready assembled =
+    let checks = inputs.checks in
+>>>>>>> theirs
     let entries = file_in (file_or_none inputs.suppressions inputs.today) in
     let logs = placed (numbered inputs.checks Log 0 inputs.logs) in
     let baselines = placed (numbered inputs.checks Baseline 0 inputs.baselines) in
-    let made = assembled inputs.checks.matching entries logs baselines asked ready.written in record {
+    let counted = runs_counted_if checks.once checks.matching entries logs baselines in
+    let places = copies_if checks.once checks.matching logs baselines in
+    let bare = runs_without_results (run_values logs) in
+    let idle = unused_of entries (records_of (counted_if checks.once logs)) in
+    let made = assembled (written_if checks.once checks.matching entries logs baselines) counted places bare idle asked ready.written in record {
       faultless = ready.faultless;
       begins = (
-        gate_of (count_of (runs_by inputs.checks.matching entries logs baselines)) policy (runs_without_results (run_values logs))
-            (unused_of entries (records_of logs)),
-        leftover_runs inputs.checks.matching logs baselines,
+        naming places (gate_of (count_of counted) policy bare idle),
+        left_if checks.once checks.matching logs baselines,
         made.written.log,
       );
       log = made.written.log;
       gate = made.written.gate;
       expired = past ∙ ready.written.expired;
       told = made.told;
+      copies = made.copies;
     }
 
 -- ---- the errors of the runs of logs, and then of those of baselines

@@ -14,7 +14,6 @@ use Rattle.sarif_model.specs.Run.{results_total}
 use Rattle.sarif_model.specs.declared.merge_fault.MergeFault.{MergeFault}
 use Rattle.sarif_model.specs.declared.merge_fault.Source.TheVariants.{Log, Baseline}
 use Rattle.sarif_model.proofs.SourceAnswers.{still_first}
-use Rattle.sarif_match.specs.declared.version.MatchingVersion.{MatchingVersion}
 use Rattle.sarif_entries.specs.File.{File}
 use Rattle.sarif_runs.specs.Judging.{faults_of_runs, run_values, skips}
 use Rattle.sarif_runs.specs.Internal.Opened.{placed_of}
@@ -32,10 +31,13 @@ use Rattle.sarif_inputs.specs.Internal.Runs.{AreRunsOf}
 use Rattle.sarif_inputs.specs.SourceFaults.{source_faults}
 use Rattle.sarif_inputs.specs.declared.sources.Runs.{Runs}
 use Rattle.sarif_inputs.proofs.ReadFacts.{baseline_sides, log_sides}
-use Rattle.sarif_log.specs.Assembled.{IsMergedBy}
-use Rattle.sarif_prepare.specs.Kept.{merge_of, IsKept, IsUnkept}
+use Rattle.sarif_log.specs.Counted.{IsMergedAs}
+use Rattle.sarif_log.specs.declared.copies.CopyPlace.{CopyPlace}
+use Rattle.serde_json.specs.Data.{Data}
+use Rattle.sarif_prepare.specs.By.{merge_by, IsPreparedBy}
+use Rattle.sarif_prepare.specs.Kept.{IsKept, IsUnkept}
 use Rattle.sarif_prepare.specs.Asked.{reporting_in, upkeep_in}
-use Rattle.sarif_log.specs.Internal.Prepared.{IsPrepared}
+use Rattle.sarif_log.specs.Internal.Prepared.{IsPreparedAs}
 use Rattle.sarif_log.specs.declared.merged.Merged.{Merged}
 use Rattle.sarif_log.specs.declared.prepared.Prepared.{Prepared}
 use Rattle.sarif_findings.specs.declared.reporting.Reporting.{Reporting}
@@ -44,7 +46,7 @@ use Rattle.sarif_upkeep.specs.Life.{life_faults}
 use Rattle.sarif_merge.specs.Life.{IsLifeOf, IsRefusal}
 use Rattle.sarif_merge.specs.Merged.{IsMerged}
 use Rattle.sarif_merge.specs.MergedLog.{file_given, file_in}
-use Rattle.sarif_merge.specs.Internal.Steps.{AreBaselinesJudged, AreBaselinesOpened, AreIndexesIn, AreLogsJudged, AreLogsOpened, AreLogsSound, AreOpened, IsFileIn, IsMergeOf, IsReady, IsRead, IsRejection, inputs_in, matching_in, policy_in}
+use Rattle.sarif_merge.specs.Internal.Steps.{AreBaselinesJudged, AreBaselinesOpened, AreIndexesIn, AreLogsJudged, AreLogsOpened, AreLogsSound, AreOpened, IsFileIn, IsMergeOf, IsReady, IsRead, IsRejection, checks_in, inputs_in, policy_in}
 use Rattle.sarif_merge.specs.declared.steps.Merging.{Merging}
 use Rattle.sarif_merge.proofs.ReadObjects.{objects_in}
 use Rattle.sarif_merge.proofs.MergeAnswers.{are_indexes, assembled_is, faults_apart, left_after_first, number_is_no_fault, same_kept, same_large, same_runs}
@@ -235,8 +237,8 @@ none_left m file now before read logs baselines =
 
 pub is_ready : (m : Merging) (bytes : Option (List ℕ)) (file : File) (now before : Judged) (prepared : Prepared) → IsFileIn m file
     → AreLogsJudged m now → AreBaselinesJudged m before
-    → bytes ≡ (inputs_in m).suppressions → IsPrepared (matching_in m) file (placed_in now) (placed_in before) (reporting_in m.asked.now) prepared
-    → IsKept (merge_of (matching_in m) file bytes (policy_in m) (placed_in now) (placed_in before)) (upkeep_in m.asked.now) prepared.life → IsReady m prepared
+    → bytes ≡ (inputs_in m).suppressions → IsPreparedBy (checks_in m) file (placed_in now) (placed_in before) (reporting_in m.asked.now) prepared
+    → IsKept (merge_by (checks_in m) file bytes (policy_in m) (placed_in now) (placed_in before)) (upkeep_in m.asked.now) prepared.life → IsReady m prepared
 unfolding IsReady AreLogsJudged AreBaselinesJudged
 is_ready m bytes file now before prepared read logs baselines is ready kept =
     let inputs = inputs_in m in
@@ -246,17 +248,17 @@ is_ready m bytes file now before prepared read logs baselines is ready kept =
     let ys = baseline_runs inputs in record {
       faultless = none_left m file now before read logs baselines;
       written =
-          subst (λ f. IsPrepared (matching_in m) f xs ys asked prepared) (same_file m file read)
-          (same_runs (matching_in m) file (placed_in now) (placed_in before) xs ys asked prepared ready logs.0 baselines.0);
-      kept = subst (λ f. IsKept (merge_of (matching_in m) f inputs.suppressions (policy_in m) xs ys) upkeep prepared.life) (same_file m file read)
-          (subst (λ b. IsKept (merge_of (matching_in m) file b (policy_in m) xs ys) upkeep prepared.life) is
-          (same_kept (matching_in m) file bytes (policy_in m) (placed_in now) (placed_in before) xs ys upkeep prepared.life kept logs.0 baselines.0));
+          subst (λ f. IsPreparedBy (checks_in m) f xs ys asked prepared) (same_file m file read)
+          (same_runs (checks_in m) file (placed_in now) (placed_in before) xs ys asked prepared ready logs.0 baselines.0);
+      kept = subst (λ f. IsKept (merge_by (checks_in m) f inputs.suppressions (policy_in m) xs ys) upkeep prepared.life) (same_file m file read)
+          (subst (λ b. IsKept (merge_by (checks_in m) file b (policy_in m) xs ys) upkeep prepared.life) is
+          (same_kept (checks_in m) file bytes (policy_in m) (placed_in now) (placed_in before) xs ys upkeep prepared.life kept logs.0 baselines.0));
     }
 
 pub rejected_life : (m : Merging) (bytes : Option (List ℕ)) (file : File) (now before : Judged) (fault : MergeFault) → IsFileIn m file
     → AreLogsJudged m now → AreBaselinesJudged m before
     → bytes ≡ (inputs_in m).suppressions
-    → IsUnkept (merge_of (matching_in m) file bytes (policy_in m) (placed_in now) (placed_in before)) (upkeep_in m.asked.now) fault → IsRejection m fault
+    → IsUnkept (merge_by (checks_in m) file bytes (policy_in m) (placed_in now) (placed_in before)) (upkeep_in m.asked.now) fault → IsRejection m fault
 unfolding IsRejection AreLogsJudged AreBaselinesJudged
 rejected_life m bytes file now before fault read logs baselines is unkept =
     let inputs = inputs_in m in
@@ -267,20 +269,26 @@ rejected_life m bytes file now before fault read logs baselines is unkept =
         | inl out ↦ inl (inl (inl out))
         | inr found ↦ inr (
           none_left m file now before read logs baselines,
-          subst (λ f. first (life_faults (merge_of (matching_in m) f inputs.suppressions (policy_in m) xs ys) upkeep) ≡ Some fault) (same_file m file read)
-              (subst (λ b. first (life_faults (merge_of (matching_in m) file b (policy_in m) xs ys) upkeep) ≡ Some fault) is
-              (same_large (matching_in m) file bytes (policy_in m) (placed_in now) (placed_in before) xs ys upkeep fault found logs.0 baselines.0)),
+          subst (λ f. first (life_faults (merge_by (checks_in m) f inputs.suppressions (policy_in m) xs ys) upkeep) ≡ Some fault) (same_file m file read)
+              (subst (λ b. first (life_faults (merge_by (checks_in m) file b (policy_in m) xs ys) upkeep) ≡ Some fault) is
+              (same_large (checks_in m) file bytes (policy_in m) (placed_in now) (placed_in before) xs ys upkeep fault found logs.0 baselines.0)),
         )
       ],
-      unkept_quiet (merge_of (matching_in m) file bytes (policy_in m) (placed_in now) (placed_in before)) upkeep fault unkept,
+      unkept_quiet (merge_by (checks_in m) file bytes (policy_in m) (placed_in now) (placed_in before)) upkeep fault unkept,
     )
 
 -- ---- assemble
 
 pub is_merge_of : (m : Merging) (prepared : Prepared) (merged : Merged) → IsReady m prepared
+<<<<<<< ours
     → ((v : MatchingVersion) (file : File) (now before : List Placed) (told : Option Reporting) → IsPrepared v file now before told prepared
     → IsMergedBy v file now before (policy_in m) told merged)
     → merged.expired ≡ prepared.expired → merged.life ≡ prepared.life → IsMergeOf m merged
+=======
+    → ((runs counted : List Data) (places : Option (List CopyPlace)) (bare idle : ℕ) (told : Option Reporting)
+    → IsPreparedAs runs counted places bare idle told prepared → IsMergedAs runs counted places (policy_in m) bare idle told merged)
+    → merged.life ≡ prepared.life → IsMergeOf m merged
+>>>>>>> theirs
 unfolding IsReady IsMergeOf
 is_merge_of m prepared merged ready assembled past same = (
   assembled_is (inputs_in m) (policy_in m) (reporting_in m.asked.now) (upkeep_in m.asked.now) prepared merged ready assembled past,

@@ -7,15 +7,22 @@ use Rattle.sarif_model.specs.declared.merge_fault.MergeFault.{MergeFault}
 use Rattle.sarif_model.specs.FirstFault.{first, IsOutOfResources}
 use Rattle.sarif_upkeep.specs.Life.{life_faults}
 use Rattle.sarif_upkeep.specs.Merge.{Merge}
+use Rattle.sarif_prepare.specs.By.{merge_by}
 use Rattle.sarif_prepare.specs.Kept.{merge_of, IsKept}
 use Rattle.sarif_inputs.specs.Faults.{faults_of, first_fault}
 use Rattle.sarif_inputs.specs.Inputs.{Inputs, input_runs, baseline_runs}
 use Rattle.sarif_merge.specs.MergedLog.{file_given}
 
--- the merge of these inputs under this policy
+-- the merge of these inputs under this policy, if each result is counted
 abbrev pub merge_in : Inputs → Policy → Merge
 merge_in inputs policy =
     merge_of inputs.checks.matching (file_given inputs) inputs.suppressions policy
+    (input_runs inputs) (baseline_runs inputs)
+
+-- the merge of the results that are counted
+abbrev pub merge_counted : Inputs → Policy → Merge
+merge_counted inputs policy =
+    merge_by inputs.checks (file_given inputs) inputs.suppressions policy
     (input_runs inputs) (baseline_runs inputs)
 
 -- nothing for later merges
@@ -24,12 +31,12 @@ no_life = record { suppressions = None; unused = None; known = None }
 
 -- what is for later merges is what was requested and nothing else, and each file of it is read as it is defined
 abbrev pub IsLifeOf : Inputs → Policy → Option Upkeep → Life → Type 0
-IsLifeOf inputs policy upkeep life = IsKept (merge_in inputs policy) upkeep life
+IsLifeOf inputs policy upkeep life = IsKept (merge_counted inputs policy) upkeep life
 
 -- the first file of what was requested for later merges that could not be read again, and why
 abbrev pub IsTooLarge : Inputs → Policy → Option Upkeep → MergeFault → Type 0
 IsTooLarge inputs policy upkeep fault =
-    first (life_faults (merge_in inputs policy) upkeep) ≡ Some fault
+    first (life_faults (merge_counted inputs policy) upkeep) ≡ Some fault
 
 -- why a merge that was read is rejected: memory ran out, a thread could not be started, or this is the first error of
 -- the inputs; or they have none, and what was requested for later merges is too large

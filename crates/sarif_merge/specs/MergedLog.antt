@@ -1,5 +1,5 @@
 -- The merged log of inputs, and its text (SARIF 2.1.0, "sarifLog object").
-use Rattle.std.specs.Prelude.{ℕ, List, [], None, Result, Ok, Err}
+use Rattle.std.specs.Prelude.{ℕ, List, [], Option, None, Result, Ok, Err}
 use Rattle.serde_json.specs.Data.{Data}
 use Rattle.serde_json.specs.Written.{compact_text}
 use Rattle.sarif_model.specs.declared.record.Record.{Record}
@@ -8,9 +8,15 @@ use Rattle.sarif_suppress.specs.Suppressing.{unused_of}
 use Rattle.sarif_entries.specs.declared.fault.FileFault.{FileFault}
 use Rattle.sarif_options.specs.declared.policy.Policy.{Policy}
 use Rattle.sarif_runs.specs.Judging.{records_of, run_values}
+<<<<<<< ours
 use Rattle.sarif_log.specs.LogBy.{current_runs, expired_of, merged_by, runs_by, runs_without_results}
+=======
+use Rattle.sarif_log.specs.LogBy.{current_runs, runs_by, runs_without_results}
+use Rattle.sarif_log.specs.declared.copies.CopyPlace.{CopyPlace}
+>>>>>>> theirs
 use Rattle.sarif_entries.specs.Given.{file_or_none}
 use Rattle.sarif_inputs.specs.Inputs.{Inputs, input_runs, baseline_runs}
+use Rattle.sarif_prepare.specs.By.{copies_if, counted_if, inputs_if, logged_by, runs_counted_if, written_if}
 
 abbrev pub file_in : Result File FileFault → File
 file_in (Ok entries) = entries
@@ -24,13 +30,14 @@ file_given inputs = file_in (file_or_none inputs.suppressions inputs.today)
 abbrev pub current_of : Inputs → List Record
 current_of inputs = records_of (input_runs inputs)
 
--- the input runs as they are written: each result once, in order, with its level, its state and its suppressions
+-- the input runs as they are written if each result is counted: each result once, in order, with its level, its state
+-- and its suppressions
 abbrev pub written_inputs : Inputs → List Data
 written_inputs inputs =
     current_runs inputs.checks.matching (file_given inputs)
     (input_runs inputs) (baseline_runs inputs)
 
--- the runs of the merged log
+-- the runs of the merged log, if each result is counted
 abbrev pub runs_written : Inputs → List Data
 runs_written inputs =
     runs_by inputs.checks.matching (file_given inputs) (input_runs inputs) (baseline_runs inputs)
@@ -42,14 +49,47 @@ without_of inputs = runs_without_results (run_values (input_runs inputs))
 abbrev pub unused_in : Inputs → ℕ
 unused_in inputs = unused_of (file_given inputs) (current_of inputs)
 
+<<<<<<< ours
 -- how many of these are expired
 abbrev pub expired_in : Inputs → ℕ
 expired_in inputs = expired_of (file_given inputs) (current_of inputs)
+=======
+-- ---- copies that aren't counted
+
+-- the input runs as they are written, if copies may not be counted: a copy has the state of its finding
+abbrev pub inputs_in_log : Inputs → List Data
+inputs_in_log inputs =
+    inputs_if inputs.checks.once inputs.checks.matching (file_given inputs)
+    (input_runs inputs) (baseline_runs inputs)
+
+-- the runs of the merged log, if copies may not be counted
+abbrev pub runs_in_log : Inputs → List Data
+runs_in_log inputs =
+    written_if inputs.checks.once inputs.checks.matching (file_given inputs)
+    (input_runs inputs) (baseline_runs inputs)
+
+-- the runs of the merged log of the results that are counted
+abbrev pub runs_counted : Inputs → List Data
+runs_counted inputs =
+    runs_counted_if inputs.checks.once inputs.checks.matching (file_given inputs)
+    (input_runs inputs) (baseline_runs inputs)
+
+-- the copies that the gate names
+abbrev pub copies_in_log : Inputs → Option (List CopyPlace)
+copies_in_log inputs =
+    copies_if inputs.checks.once inputs.checks.matching (input_runs inputs) (baseline_runs inputs)
+
+-- how many entries of the suppression file match no current result that is counted
+abbrev pub unused_counted : Inputs → ℕ
+unused_counted inputs =
+    unused_of (file_given inputs) (records_of (counted_if inputs.checks.once (input_runs inputs)))
+
+-- ---- the log
+>>>>>>> theirs
 
 abbrev pub merged_log : Inputs → Policy → Data
 merged_log inputs policy =
-    merged_by inputs.checks.matching (file_given inputs)
-    (input_runs inputs) (baseline_runs inputs) policy
+    logged_by inputs.checks (file_given inputs) (input_runs inputs) (baseline_runs inputs) policy
 
 -- the text that is written: compact, members in the byte order of their names, nothing after it
 abbrev pub output_text : Inputs → Policy → List ℕ

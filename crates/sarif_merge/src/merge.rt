@@ -1,5 +1,5 @@
 //! The merge of logs.
-ghost use Rattle.std.specs.Prelude.{◌≡◌, ◌≤◌, ◌+◌, ◌⊎◌, [], Ok, Some, length, IfOk, IfErr};
+ghost use Rattle.std.specs.Prelude.{◌≡◌, ◌≤◌, ◌+◌, ◌⊎◌, [], Ok, Some, length, option_map, IfOk, IfErr};
 ghost use Rattle.sarif_model.specs.MergeFault.{IsQuiet};
 ghost use Rattle.sarif_log.specs.Beside.{IsMadeBy};
 ghost use Rattle.sarif_log.specs.Assembled.{HasGate};
@@ -9,7 +9,11 @@ ghost use Rattle.sarif_inputs.specs.Faults.{faults_of, first_fault};
 ghost use Rattle.sarif_merge.specs.Given.{inputs_of};
 ghost use Rattle.sarif_merge.specs.Life.{IsLifeOf, IsRefusal, no_life};
 ghost use Rattle.sarif_merge.specs.Merged.{HoldsFirst, IsMerged};
+<<<<<<< ours
 ghost use Rattle.sarif_merge.specs.MergedLog.{expired_in, output_text, runs_written, without_of, unused_in, written_inputs};
+=======
+ghost use Rattle.sarif_merge.specs.MergedLog.{copies_in_log, inputs_in_log, output_text, runs_counted, unused_counted, without_of};
+>>>>>>> theirs
 ghost use Rattle.sarif_merge.specs.Internal.Steps.{AreBaselinesOpened, AreLogsOpened, IsFileIn, IsReady, IsRejection};
 ghost use Rattle.sarif_model.specs.Limits.{most_sources};
 
@@ -131,17 +135,25 @@ pub fn merge_bytes<G: Gate + Sync, R: Threads + Wait + Sync>(
     // The log begins with the input runs: each result once, in its run's order, with its level, its state and
     // its suppressions.
     ensures inputs { IfOk result
-        (λ merged. HoldsFirst (written_inputs (inputs_of sources.now options.now)) merged.log) }
+        (λ merged. HoldsFirst (inputs_in_log (inputs_of sources.now options.now)) merged.log) }
     // After these come exactly the unmatched results of the baselines, as absent, and nothing after the log.
     ensures log { IfOk result (λ merged. merged.log
         ≡ output_text (inputs_of sources.now options.now) options.now.policy) }
-    // Counts, verdict and numbers are those of the log that is written.
+    // Counts, verdict and numbers are those of the results that are written and counted.
     ensures gate { let inputs = inputs_of sources.now options.now in
+<<<<<<< ours
         IfOk result (HasGate (runs_written inputs) options.now.policy (without_of inputs)
         (unused_in inputs)) }
     // The number of unused entries that are expired is counted.
     ensures expired { IfOk result
         (λ merged. merged.expired ≡ expired_in (inputs_of sources.now options.now)) }
+=======
+        IfOk result (HasGate (runs_counted inputs) options.now.policy (without_of inputs)
+        (unused_counted inputs)) }
+    // If copies aren't counted, the gate names them, and there are that many.
+    ensures copies { IfOk result (λ merged. merged.copies
+        ≡ option_map length (copies_in_log (inputs_of sources.now options.now))) }
+>>>>>>> theirs
     // The merge has no findings.
     ensures untold { IfOk result (λ merged. merged.findings.items ≡ []) }
     // Nothing is for later merges.

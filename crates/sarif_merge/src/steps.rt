@@ -12,7 +12,7 @@ use sarif_inputs::{Opening, Runs, index_sources, open_sources, read_file};
 use sarif_judge::{Team, judge_runs};
 use sarif_log::{Facts, Merged, Prepared, assemble};
 use sarif_model::MergeFault;
-use sarif_prepare::{Asked, FileRead, prepare};
+use sarif_prepare::{Asked, FileRead, prepare_by};
 use sarif_results::Judged;
 use sarif_runs::OpenedRun;
 use sarif_streams::SourceBytes;
@@ -181,7 +181,7 @@ impl<'m, 'o: 'm> Merging<'m, 'o> {
             file,
             bytes: slice_of(&self.sources.suppressions),
         };
-        let prepared = prepare(rt, alloc, logs, baselines, &rules, self.asked)?;
+        let prepared = prepare_by(rt, alloc, logs, baselines, &rules, self.asked)?;
         Ok(prepared)
     }
 

@@ -46,7 +46,7 @@ records_seam (Sound r ∷ xs) ys = ap (λ rs. r ∷ rs) (records_seam xs ys)
 records_seam (Bad fault ∷ xs) ys = records_seam xs ys
 records_seam (Skipped ∷ xs) ys = records_seam xs ys
 
-records_are : (ps : List Placed) → records_in (flat_map items_of ps) ≡ records_of ps
+pub records_are : (ps : List Placed) → records_in (flat_map items_of ps) ≡ records_of ps
 records_are [] = refl
 records_are (p ∷ ps) = records_seam (items_of p) (flat_map items_of ps) ∙ ap (λ rs. records_in (items_of p) ++ rs) (records_are ps)
 

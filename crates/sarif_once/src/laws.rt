@@ -1,7 +1,8 @@
 //! Laws of runs without their copies. Each law is the contract of a function that does nothing.
-ghost use Rattle.std.specs.Prelude.{◌≡◌, Bool, List, false, length};
+ghost use Rattle.std.specs.Prelude.{◌≡◌, ◌++◌, Bool, List, false, true, length};
+ghost use Rattle.std.specs.List.{AllByRecursion, list_any};
 ghost use Rattle.serde_json.specs.Data.{Data};
-ghost use Rattle.sarif_copies.specs.Copies.{copies_of, numbers_of, spread};
+ghost use Rattle.sarif_copies.specs.Copies.{are_alike, copies_of, numbers_of, spread};
 ghost use Rattle.sarif_model.specs.Run.{results_of};
 ghost use Rattle.sarif_model.specs.declared.kinds.State.{State};
 ghost use Rattle.sarif_model.specs.declared.kinds.State.TheVariants.{New};
@@ -38,4 +39,12 @@ pub fn findings_keep_what_is_theirs()
 pub fn parted_drafts_make_the_whole()
     ensures { (marks : List Bool) (xs : List Draft) → length marks ≡ length xs
         → woven marks (unmarked marks xs) (marked marks xs) ≡ xs }
+{}
+
+/// If each of the results that follow others is alike to one of these, they are all copies: the findings are those of
+/// the others.
+pub fn results_alike_to_earlier_ones_change_no_finding()
+    ensures { (rs more : List Record)
+        → AllByRecursion (λ r. list_any (λ q. are_alike q r) rs ≡ true) more
+        → unmarked (copies_of (rs ++ more)) (rs ++ more) ≡ unmarked (copies_of rs) rs }
 {}

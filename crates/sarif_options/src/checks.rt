@@ -14,21 +14,25 @@ pub struct Checks {
     /// Whether a run may name external property files if none of them holds what a merge reads (SARIF 2.1.0,
     /// "externalPropertyFileReferences property").
     pub allow_external: bool,
-    /// By which version results are matched, and with it whether their regions and snippets are read.
+    /// By which version results are matched. Version 3 reads regions and snippets.
     pub matching: MatchingVersion,
+    /// Whether a result that is equal to an earlier one, its region too, is neither matched nor counted: it is a copy. Then
+    /// regions and snippets are read.
+    pub once: bool,
     /// The names of fingerprints that are ignored: results are taken as if they had none with these names (SARIF
     /// 2.1.0, "fingerprints property", "partialFingerprints property").
     pub ignored: Sequence<Text>,
 }
 
 impl Checks {
-    /// Accepts runs whose analysis failed, rejects each run that names external property files, matches by version 2
-    /// and ignores no fingerprint. Does not allocate.
+    /// Accepts runs whose analysis failed, rejects each run that names external property files, matches by version 2,
+    /// counts each result and ignores no fingerprint. Does not allocate.
     pub fn new(alloc: Global) -> Checks
         ensures { result ≡ record {
           require_success = false;
           allow_external = false;
           matching = Two;
+          once = false;
           ignored = [];
         } }
     {
@@ -36,6 +40,7 @@ impl Checks {
             require_success: false,
             allow_external: false,
             matching: MatchingVersion::Two,
+            once: false,
             ignored: Sequence::new(alloc),
         }
     }

@@ -118,7 +118,7 @@ pairs_at_spots runs skip sound = from [] runs 0 refl skip sound
 abbrev second : Data × Data → Data
 second p = p.1
 
-results_with : (run : Data) (ds : List Data) → map second (with_run run ds) ≡ ds
+pub results_with : (run : Data) (ds : List Data) → map second (with_run run ds) ≡ ds
 results_with run [] = refl
 results_with run (d ∷ ds) = ap (λ xs. d ∷ xs) (results_with run ds)
 
@@ -129,7 +129,7 @@ results_in (run ∷ runs) =
     ∙ ap (λ ds. ds ++ map second (flat_map present_in runs)) (results_with run (present (results_of run)))
     ∙ ap (λ ds. present (results_of run) ++ ds) (results_in runs)
 
-results_at : (runs : List Placed) (spots : List Spot) → map second (map (pair_at runs) spots) ≡ map (found_at runs) spots
+pub results_at : (runs : List Placed) (spots : List Spot) → map second (map (pair_at runs) spots) ≡ map (found_at runs) spots
 results_at runs [] = refl
 results_at runs (spot ∷ spots) = ap (λ ds. found_at runs spot ∷ ds) (results_at runs spots)
 

@@ -1,4 +1,7 @@
 pub mod BaselineSpots
+pub mod Chosen
+pub mod CopyDrafts
+pub mod CopyPlaces
 pub mod Expired
 pub mod FoundDrafts
 pub mod KeptSides
@@ -13,4 +16,7 @@ pub mod StandingsMore
 pub mod ToldResults
 pub mod ToldRuns
 pub mod ToldSides
+pub mod Untaken
+pub mod WovenLog
+pub mod WovenParts
 pub mod WrittenSides

@@ -62,7 +62,7 @@ current_side v file now before c b s h parts whole drafts states =
 pub baseline_long : (before : List Placed) (b : Baselines) → AreBaselines before b → length (baseline_drafts before) ≡ length (records_of before)
 baseline_long before b h = drafts_long (λ _ own. own) unapplied (records_of before) (present_results (run_values before)) h.count
 
-few_left : {X : Type 0} (taken : List Bool) (xs : List X) → length (not_taken taken xs) ≤ length xs
+pub few_left : {X : Type 0} (taken : List Bool) (xs : List X) → length (not_taken taken xs) ≤ length xs
 few_left [] [] = omega arith
 few_left [] (x ∷ xs) = omega arith
 few_left (t ∷ taken) [] = omega arith

@@ -1,4 +1,5 @@
 -- Definitions for contracts within and between the crates, and for proofs. The merge theorem reaches none of them.
+pub mod Apart
 pub mod Baselines
 pub mod Halves
 pub mod Keeping
@@ -7,3 +8,4 @@ pub mod Leftover
 pub mod Marked
 pub mod Telling
 pub mod Together
+pub mod Woven

@@ -92,7 +92,7 @@ fn count_records(outcomes: &[Outcome]) -> usize
 
 /// Returns how many results of each baseline run have a record, if none has an error: the results that are not
 /// already absent.
-fn count_present(
+pub(crate) fn count_present(
     alloc: Global,
     runs: &[OpenedRun<'_, '_>],
     mut outcomes: &[Outcome],

@@ -41,6 +41,14 @@ fn take_found(alloc: Global, outcomes: Vec<Outcome>) -> Result<RecordsAndDrafts,
     Ok(RecordsAndDrafts { records, drafts })
 }
 
+/// Takes the drafts out of outcomes.
+pub(crate) fn take_drafts(alloc: Global, outcomes: Vec<Outcome>) -> Result<Vec<Draft>, AllocError>
+    ensures { IfOk result (λ drafts. drafts.items ≡ drafts_in outcomes.items) }
+{
+    let RecordsAndDrafts { drafts, .. } = take_found(alloc, outcomes)?;
+    Ok(drafts)
+}
+
 /// Adds the record of a result, where it has one.
 fn push_record(records: &mut Vec<Record>, item: Item) -> Result<(), AllocError>
     ensures { OnOk result (records.new.items ≡ records.old.items ++ records_in (item ∷ [])) }

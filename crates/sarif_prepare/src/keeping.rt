@@ -28,7 +28,7 @@ pub(crate) struct Sides<'s, 't: 's, 'a: 't> {
 }
 
 /// The state of each current result; each has one.
-fn list_there(alloc: Global, states: &[Option<State>]) -> Result<Vec<State>, AllocError>
+pub(crate) fn list_there(alloc: Global, states: &[Option<State>]) -> Result<Vec<State>, AllocError>
     ensures { IfOk result (λ there. there.items ≡ map (λ state. unwrap_or state New) states.now) }
 {
     let mut there = Vec::with_capacity(alloc, states.len())?;

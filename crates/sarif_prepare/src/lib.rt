@@ -4,6 +4,8 @@
 
 mod asked;
 mod baselines;
+mod choosing;
+mod copies;
 mod file_read;
 mod halves;
 mod keeping;
@@ -11,6 +13,7 @@ mod left;
 mod leftover;
 mod leftovers;
 mod matched;
+mod once;
 mod parts_of_runs;
 mod preparing;
 mod run_parts;
@@ -18,8 +21,11 @@ mod snippets;
 mod telling;
 mod told;
 mod unused;
+mod woven;
 
 pub use asked::Asked;
+pub use choosing::prepare_by;
 pub use file_read::FileRead;
+pub use once::prepare_once;
 pub use preparing::prepare;
 pub use unused::mark_entries;

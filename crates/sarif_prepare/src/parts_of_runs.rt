@@ -1,5 +1,5 @@
 //! The parts of the runs of logs, and of the runs of baselines with their unmatched results.
-ghost use Rattle.std.specs.Prelude.{◌≡◌, ◌≤◌, Some, IfOk, length, map};
+ghost use Rattle.std.specs.Prelude.{◌≡◌, ◌≤◌, IfOk, length, map};
 ghost use Rattle.std.specs.List.{AllByRecursion};
 ghost use Rattle.serde_json.specs.View.{members_view};
 ghost use Rattle.sarif_runs.specs.Judging.{run_values};
@@ -15,7 +15,7 @@ use sarif_runs::OpenedRun;
 use std::alloc::{AllocError, Global};
 
 /// How many results the run has, where it has an array of them.
-fn count_listed(run: &OpenedRun<'_, '_>) -> Option<u32>
+pub(crate) fn count_listed(run: &OpenedRun<'_, '_>) -> Option<u32>
     ensures { result ≡ own_count (placed_of run.now).run }
 {
     if run.has_results() {
@@ -53,7 +53,7 @@ pub(crate) fn current_parts(
 }
 
 /// Returns how many of these are not taken.
-fn count_left(taken: &[bool]) -> usize
+pub(crate) fn count_left(taken: &[bool]) -> usize
     ensures count { result ≡ left_count taken.now }
     ensures few { result ≤ length taken.now }
 {
@@ -66,14 +66,14 @@ fn count_left(taken: &[bool]) -> usize
     count
 }
 
-/// Returns the parts of a baseline run with this number of unmatched results.
-fn left_run(alloc: Global, run: OpenedRun<'_, '_>, count: u32) -> RunParts
+/// Returns the parts of a run that is written with this number of results.
+pub(crate) fn run_with(alloc: Global, run: OpenedRun<'_, '_>, results: Option<u32>) -> RunParts
     ensures members { members_view result.members.entries
         ≡ bare (members_in (placed_of run.entry).run) }
-    ensures results { result.results ≡ Some count }
+    ensures results { result.results ≡ results }
     ensures whole { IsWholeRun result }
 {
-    make_parts(alloc, run.into_bare(), Some(count))
+    make_parts(alloc, run.into_bare(), results)
 }
 
 /// Returns the parts of baseline runs, each with the number of its unmatched results. For each run, `counts` has the
@@ -97,7 +97,7 @@ pub(crate) fn left_parts(
     let mut number = 0;
     for run in runs {
         let (these, later) = taken.split_at(counts[number] as usize);
-        all.push(left_run(alloc, run, count_left(these) as u32))?;
+        all.push(run_with(alloc, run, Some(count_left(these) as u32)))?;
         taken = later;
         number += 1;
     }

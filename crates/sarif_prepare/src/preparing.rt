@@ -57,16 +57,16 @@ pub(crate) struct Paired {
 
 /// What is written for the runs of logs.
 #[derive(Drop)]
-struct CurrentSide {
-    side: Side,
+pub(crate) struct CurrentSide {
+    pub(crate) side: Side,
     /// How many of the runs have no results.
-    without: u32,
+    pub(crate) without: u32,
     /// How many entries of the suppression file match no result.
-    unused: u32,
+    pub(crate) unused: u32,
     /// How many of these are expired.
-    expired: u32,
+    pub(crate) expired: u32,
     /// The records of their results.
-    records: Vec<Record>,
+    pub(crate) records: Vec<Record>,
 }
 
 /// Matches the results of logs with those of baselines.
@@ -170,14 +170,14 @@ fn current_side(
 
 /// What is reported about the results of logs and baselines, once they are matched.
 #[derive(Drop)]
-struct ReportedSides {
-    paired: Paired,
-    findings: Vec<Finding>,
-    life: Life,
+pub(crate) struct ReportedSides {
+    pub(crate) paired: Paired,
+    pub(crate) findings: Vec<Finding>,
+    pub(crate) life: Life,
 }
 
 /// Matches the results of logs with those of baselines, and says what is reported and what is for later merges.
-fn tell_sides<R: Threads + Sync>(
+pub(crate) fn tell_sides<R: Threads + Sync>(
     rt: &R,
     alloc: Global,
     current: &Half<'_, '_>,

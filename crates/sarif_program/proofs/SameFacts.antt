@@ -6,7 +6,7 @@ use Rattle.sarif_log.specs.declared.facts.Facts.{Facts as MergeFacts}
 use Rattle.sarif_log.specs.declared.merged.Merged.{Merged}
 use Rattle.sarif_log.specs.Beside.{AreFactsOf}
 use Rattle.sarif_request.specs.declared.request.Request.{Request}
-use Rattle.sarif_program.specs.Notes.{happened_if, lines_for, lines_of, lines_with}
+use Rattle.sarif_program.specs.Notes.{copies_line, happened_if, lines_for, lines_of, lines_with}
 use Rattle.sarif_program.specs.Reports.{facts_for, facts_with}
 
 -- the facts of the merge are those that the closure received
@@ -24,9 +24,14 @@ same_facts request merged facts are = λ i. record {
 
 -- the lines of the merge are those of these facts
 pub same_lines : (request : Request) (merged : Merged) (facts : MergeFacts) → AreFactsOf merged facts → lines_with request facts ≡ lines_for request merged
+<<<<<<< ours
 same_lines request merged facts are = λ i. lines_of (are.life i) ++ happened_if request.explain (are.without i) (are.unused i) (are.expired i)
+=======
+same_lines request merged facts are =
+    λ i. lines_of (are.life i) ++ (copies_line (are.copies i) ++ happened_if request.explain (are.without i) (are.unused i))
+>>>>>>> theirs
 
 -- there is no line on what is not there, and none on what happened without explanations
-pub no_lines : (request : Request) (merged : Merged) → merged.life.suppressions ≡ None → merged.life.known ≡ None → request.explain ≡ false
-    → lines_for request merged ≡ []
-no_lines request merged unrenewed unknown plain = rw (unrenewed, unknown, plain) refl
+pub no_lines : (request : Request) (merged : Merged) → merged.life.suppressions ≡ None → merged.life.known ≡ None → merged.copies ≡ None
+    → request.explain ≡ false → lines_for request merged ≡ []
+no_lines request merged unrenewed unknown counted plain = rw (unrenewed, unknown, counted, plain) refl

@@ -1,5 +1,5 @@
--- The lines on what a merge gives for later merges, and on what happened: this project's own format.
-use Rattle.std.specs.Prelude.{◌≡◌, ℕ, Bool, List, [], ◌++◌, ◌==◌, Option, take, codes, if◌then◌else◌}
+-- The lines on what a merge gives for later merges, on copies, and on what happened: this project's own format.
+use Rattle.std.specs.Prelude.{◌≡◌, ℕ, Bool, List, [], ◌++◌, ◌==◌, Option, None, Some, take, codes, if◌then◌else◌}
 use Rattle.std.specs.Fmt.{decimal}
 use Rattle.std.specs.Io.KnownBytes.{Appends}
 use Rattle.std.specs.Option.{option_map_or}
@@ -33,6 +33,11 @@ log_line log =
 abbrev pub lines_of : Life → List ℕ
 lines_of life = option_map_or file_line life.suppressions [] ++ option_map_or log_line life.known []
 
+-- the line on copies, if copies aren't counted
+abbrev pub copies_line : Option ℕ → List ℕ
+copies_line None = []
+copies_line (Some n) = codes "sarif_gate: " ++ (decimal n ++ (codes " copies" ++ newline))
+
 -- a sentence on a line
 abbrev pub told_line : List ℕ → List ℕ
 told_line sentence = codes "sarif_gate: " ++ (sentence ++ newline)
@@ -63,13 +68,21 @@ happened_if explain without unused expired =
 abbrev pub lines_with : Request → MergeFacts → List ℕ
 lines_with request facts =
     lines_of facts.life.now
+<<<<<<< ours
     ++ happened_if request.explain facts.without facts.unused facts.expired
+=======
+    ++ (copies_line facts.copies ++ happened_if request.explain facts.without facts.unused)
+>>>>>>> theirs
 
 -- all lines of this merge
 abbrev pub lines_for : Request → Merged → List ℕ
 lines_for request merged =
     lines_of merged.life
+<<<<<<< ours
     ++ happened_if request.explain merged.without merged.unused merged.expired
+=======
+    ++ (copies_line merged.copies ++ happened_if request.explain merged.without merged.unused)
+>>>>>>> theirs
 
 -- these lines were written, or a prefix of them if a write failed; no error was reported, and nothing was written if
 -- there are no lines

@@ -85,11 +85,12 @@ IsCutShort views request old new = (merged : Merged) × IsMergeOf views request 
     × HasLost views.held (texts_of_merge request merged) old.writers new.writers
     old.complaints new.complaints
 
--- no error is reported, and nothing at all if nothing is for later merges and no explanations are requested
+-- no error is reported, and nothing at all if nothing is for later merges, copies are counted and no explanations are
+-- requested
 pub record IsQuiet {E : Type 0} (request : Request) (old new : Complaints E) : Type 0 where
   pub last : new.last ≡ old.last
   pub silent : request.upkeep.renewal ≡ None → request.upkeep.known ≡ None
-      → request.explain ≡ false → new ≡ old
+      → request.options.checks.once ≡ false → request.explain ≡ false → new ≡ old
 
 -- the status, and what was read, written and reported: the contract of `run_request` as one fact, for what cites it
 pub record IsRun {R W S P E : Type 0} (views : Views R W S P E) (request : Request)

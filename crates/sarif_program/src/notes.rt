@@ -1,4 +1,4 @@
-//! The lines on what a merge gives for later merges, and on what happened.
+//! The lines on what a merge gives for later merges, on copies, and on what happened.
 ghost use Rattle.std.specs.Prelude.{◌≡◌, ◌++◌, IfOk, OnOk, string_bytes};
 ghost use Rattle.sarif_shown.specs.Sentences.{entries_text, runs_text};
 ghost use Rattle.sarif_program.specs.Notes as said;
@@ -10,7 +10,7 @@ use sarif_request::Request;
 use sarif_shown::{count_text, entries_text, runs_text};
 use std::alloc::{AllocError, Global};
 
-/// Returns the lines on what is for later merges. If explanations are requested, lines on what happened follow.
+/// Returns the lines on what is for later merges and on copies. If explanations are requested, lines on what happened follow.
 pub(crate) fn lines_with(
     alloc: Global,
     request: &Request,
@@ -19,17 +19,40 @@ pub(crate) fn lines_with(
     ensures { IfOk result (λ lines. lines ≡ said.lines_with request.now facts.now) }
 {
     let mut lines = lines_of(alloc, facts.life)?;
+    lines.push_str(copies_line(alloc, facts.copies)?.as_str())?;
     if request.explain {
         push_happened(alloc, &mut lines, facts)?;
     }
     Text::from_string(lines)
 }
 
+<<<<<<< ours
 /// Adds a line on runs without results, one on unused entries and one on those of them that are expired, each if there
 /// are any.
 fn push_happened(alloc: Global, lines: &mut String, facts: &Facts<'_>) -> Result<(), AllocError>
     ensures { OnOk result (string_bytes lines.new ≡ string_bytes lines.old
         ++ said.happened facts.now.without facts.now.unused facts.now.expired) }
+=======
+/// Returns the line on copies, if copies aren't counted.
+fn copies_line(alloc: Global, copies: Option<u64>) -> Result<String, AllocError>
+    ensures { IfOk result (λ s. string_bytes s ≡ said.copies_line copies) }
+{
+    match copies {
+        Some(number) => format!(in alloc; "sarif_gate: {number} copies\n"),
+        None => Ok(String::new(alloc)),
+    }
+}
+
+/// Adds a line on runs without results and one on unused entries, each if there are any.
+fn push_happened(
+    alloc: Global,
+    lines: &mut String,
+    without: u32,
+    unused: u32,
+) -> Result<(), AllocError>
+    ensures { OnOk result (string_bytes lines.new
+        ≡ string_bytes lines.old ++ said.happened without unused) }
+>>>>>>> theirs
 {
     lines.push_str(runs_line(alloc, facts.without)?.as_str())?;
     lines.push_str(entries_line(alloc, facts.unused)?.as_str())?;

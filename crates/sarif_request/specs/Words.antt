@@ -183,6 +183,7 @@ pub record AsksFor (rows : List Row) (request : Request) : Type 0 where
   pub allow_external : request.options.checks.allow_external
       ≡ is_set (codes "allow-external-properties") rows
   pub matching : IsVersion (one_of (codes "matching") rows) request.options.checks.matching
+  pub once : request.options.checks.once ≡ is_set (codes "once") rows
   pub ignored : request.options.checks.ignored ≡ values_of (codes "ignore-fingerprint") rows
   pub workers : (n : ℕ) × IsReadOr 1 (one_of (codes "workers") rows) n
       × (request.options.workers ≡ in_range n)

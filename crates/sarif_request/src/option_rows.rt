@@ -80,7 +80,7 @@ pub fn is_date(kind: OptionKind) -> bool {
     kind == DATE
 }
 
-static ROWS: [OptionRow; 24] = [
+static ROWS: [OptionRow; 25] = [
     OptionRow {
         id: "log",
         value: "LOG",
@@ -169,6 +169,15 @@ static ROWS: [OptionRow; 24] = [
         group: Group::Gate,
         kind: OptionKind::Number(2, 3),
         default: Some("2"),
+    },
+    OptionRow {
+        id: "once",
+        value: "",
+        help: "Match and count equal results at one place only once, such as those of a\n\
+            header that many files include. Each is written",
+        group: Group::Gate,
+        kind: OptionKind::Flag,
+        default: None,
     },
     OptionRow {
         id: "ignore-fingerprint",

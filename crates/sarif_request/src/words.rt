@@ -400,6 +400,8 @@ fn checks_of(alloc: Global, matches: &ArgMatches<'_>) -> Result<Checks, AllocErr
         ≡ is_set (codes "allow-external-properties") (rows_of (found_of matches.now))) }
     ensures matching { IfOk result (λ checks.
         IsVersion (one_of (codes "matching") (rows_of (found_of matches.now))) checks.matching) }
+    ensures once { IfOk result (λ checks. checks.once
+        ≡ is_set (codes "once") (rows_of (found_of matches.now))) }
     ensures ignored { IfOk result (λ checks. checks.ignored
         ≡ values_of (codes "ignore-fingerprint") (rows_of (found_of matches.now))) }
 {
@@ -409,6 +411,7 @@ fn checks_of(alloc: Global, matches: &ArgMatches<'_>) -> Result<Checks, AllocErr
         require_success: is_set(matches, "require-success"),
         allow_external: is_set(matches, "allow-external-properties"),
         matching: matching_of(matches),
+        once: is_set(matches, "once"),
         ignored,
     })
 }

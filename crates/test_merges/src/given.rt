@@ -77,6 +77,7 @@ pub(crate) fn copy_of(alloc: Global, checks: &Checks) -> Result<Checks, AllocErr
         require_success: checks.require_success,
         allow_external: checks.allow_external,
         matching: checks.matching,
+        once: checks.once,
         ignored,
     })
 }

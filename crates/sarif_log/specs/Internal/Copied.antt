@@ -1,7 +1,7 @@
 -- The marks of the results that are written, run by run.
 use Rattle.std.specs.Prelude.{◌≡◌, ⊤, Bool, true, false, List, [], ◌∷◌, ◌++◌, take, drop, length, Option, Some, None, option_map}
 use Rattle.sarif_model.specs.declared.kinds.State.{State}
-use Rattle.sarif_log.specs.Copies.{places_from}
+use Rattle.sarif_log.specs.Copies.{if_any, places_from}
 use Rattle.sarif_log.specs.declared.copies.CopyPlace.{CopyPlace}
 use Rattle.sarif_log.specs.declared.merged_text.Side.{Side}
 use Rattle.sarif_log.specs.declared.prepared.CopyFlags.{CopyFlags}
@@ -14,10 +14,6 @@ marks_of_parts [] marks = []
 marks_of_parts (parts ∷ more) marks =
     let n = count_in_parts parts in
     take n marks ∷ marks_of_parts more (drop n marks)
-
-abbrev pub if_any : List Bool → List (List Bool) → List (List Bool)
-if_any [] more = more
-if_any (mark ∷ marks) more = (mark ∷ marks) ∷ more
 
 -- the marks of the results of each run that has a result
 abbrev pub marks_of_left : List RunParts → List Bool → List (List Bool)

@@ -6,20 +6,20 @@ use Rattle.sarif_model.specs.declared.merge_fault.Source.TheVariants.{Log, Basel
 use Rattle.sarif_findings.specs.declared.reporting.Reporting.{Reporting}
 use Rattle.sarif_log.specs.declared.prepared.Prepared.{Prepared}
 use Rattle.sarif_prepare.specs.Kept.{IsKept}
-use Rattle.sarif_log.specs.Internal.Prepared.{IsPrepared}
+use Rattle.sarif_prepare.specs.By.{IsPreparedBy}
 use Rattle.sarif_inputs.specs.Faults.{faults_of}
 use Rattle.sarif_entries.specs.Given.{file_or_none}
 use Rattle.sarif_inputs.specs.Inputs.{Inputs, numbered, placed}
-use Rattle.sarif_merge.specs.Life.{merge_in}
+use Rattle.sarif_merge.specs.Life.{merge_counted}
 use Rattle.sarif_merge.specs.MergedLog.{file_in}
 
 -- there are no errors, and everything that is written for the merge is there
 pub record IsPreparedFor (inputs : Inputs) (policy : Policy) (asked : Option Reporting)
     (upkeep : Option Upkeep) (prepared : Prepared) : Type 0 where
   pub faultless : faults_of inputs ≡ []
-  pub written : IsPrepared inputs.checks.matching
+  pub written : IsPreparedBy inputs.checks
       (file_in (file_or_none inputs.suppressions inputs.today))
       (placed (numbered inputs.checks Log 0 inputs.logs))
       (placed (numbered inputs.checks Baseline 0 inputs.baselines))
       asked prepared
-  pub kept : IsKept (merge_in inputs policy) upkeep prepared.life
+  pub kept : IsKept (merge_counted inputs policy) upkeep prepared.life

@@ -7,7 +7,7 @@ use Rattle.sarif_model.specs.MergeFault.{exit_status}
 use Rattle.sarif_model.specs.Run.{results_total}
 use Rattle.sarif_model.specs.declared.merge_fault.MergeFault.{MergeFault}
 use Rattle.sarif_options.specs.declared.policy.Policy.{Policy}
-use Rattle.sarif_match.specs.declared.version.MatchingVersion.{MatchingVersion}
+use Rattle.sarif_options.specs.declared.checks.Checks.{Checks}
 use Rattle.sarif_entries.specs.File.{File}
 use Rattle.sarif_runs.specs.Judging.{faults_of_runs, run_values}
 use Rattle.sarif_runs.specs.Internal.Opened.{placed_of}
@@ -43,9 +43,9 @@ IsRejection m fault =
     IsRefusal (inputs_in m) (policy_in m) (upkeep_in m.asked.now) fault
     × (exit_status fault.cause ≡ 2)
 
--- the version by which its results are matched
-abbrev pub matching_in : Merging → MatchingVersion
-matching_in m = m.asked.now.options.now.checks.matching
+-- what it requires of runs, and how its results are matched and counted
+abbrev pub checks_in : Merging → Checks
+checks_in m = m.asked.now.options.now.checks
 
 -- the indexes of its sources, those of the logs first
 unfoldable pub AreIndexesIn : Merging → List (Result (List Token) IndexFault) → Type 0

@@ -22,7 +22,7 @@ loop-run-preserved c =
     let step : l.run-iterator.rest.items ≡ run ∷ left = search rules in
     let counts = c.args.counts.now in
     let found = slice_index counts l.number in
-    let parts = c.left_run.result in
+    let parts = c.run_with.result in
     let n = length (present (results_of placed.run)) in
     let counted : drop l.number counts ≡ n ∷ present_counts others = l.invariant.counts ∙ ap (λ rs. present_counts (map placed_of rs)) step in
     let below : l.number < length counts = let long = ap length counted in omega (arith, long, length-drop l.number counts) in
@@ -33,17 +33,17 @@ loop-run-preserved c =
     ∙ length-append (present (results_of placed.run)) (present_results (run_values others)) in
     let these = c.split_at.ensures.front ∙ ap (λ m. take m l.taken.now) count in
     let later = c.split_at.ensures.back ∙ ap (λ m. drop m l.taken.now) count in
-    let results = c.left_run.ensures.results ∙ ap Some (c.count_left.ensures.count ∙ ap left_count these) in
+    let results = c.run_with.ensures.results ∙ ap Some (c.count_left.ensures.count ∙ ap left_count these) in
     let pushed : c.push.new.self.items ≡ l.all.items ++ parts ∷ [] = search rules in record {
       counts = rw add-one (ap (drop 1) first);
       taken = ap length later ∙ (let rest = length-drop n l.taken.now in omega (arith, rest, all));
-      whole = subst (AllByRecursion IsWholeRun) (sym pushed) (whole_more l.all.items parts l.invariant.whole c.left_run.ensures.whole);
+      whole = subst (AllByRecursion IsWholeRun) (sym pushed) (whole_more l.all.items parts l.invariant.whole c.run_with.ensures.whole);
       parts = λ more are.
           subst (λ ps. AreLeftParts (ps ++ more) c.args.taken.now (run_values (map placed_of c.args.runs.items))) (sym pushed)
           (subst (λ ps. AreLeftParts ps c.args.taken.now (run_values (map placed_of c.args.runs.items))) (sym (append_assoc l.all.items (parts ∷ []) more))
           (l.invariant.parts (parts ∷ more)
           (subst (λ rs. AreLeftParts (parts ∷ more) l.taken.now (run_values (map placed_of rs))) (sym step)
-          (c.left_run.ensures.members, results, subst (λ ts. AreLeftParts more ts (run_values others)) later are))));
+          (c.run_with.ensures.members, results, subst (λ ts. AreLeftParts more ts (run_values others)) later are))));
     }
 
 pub returns-clause-parts : goal.returns-clause-parts

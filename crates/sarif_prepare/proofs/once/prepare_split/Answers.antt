@@ -1,0 +1,96 @@
+use Rattle.std.proofs.Common.{◌≡◌, length, Some, map, refl, sym, ap, ap₂, ◌∙◌, subst, arith}
+use Rattle.std.proofs.lemmas.Result.{err_from_is_err_and}
+use Rattle.std.specs.List.{flat_map}
+use Rattle.sarif_model.specs.Run.{results_of}
+use Rattle.sarif_runs.specs.Judging.{records_of, run_values}
+use Rattle.sarif_once.specs.Once.{without_copies}
+use Rattle.sarif_log.specs.LogBy.{states_of, taken_of}
+use Rattle.sarif_log.specs.declared.prepared.CopyFlags.{CopyFlags}
+use Rattle.sarif_log.proofs.Sides.{results_long, taken_long}
+use Rattle.sarif_prepare.specs.Internal.Baselines.{baseline_drafts}
+use Rattle.sarif_prepare.specs.Internal.Leftover.{not_taken}
+use Rattle.sarif_prepare.specs.Internal.Woven.{AreCurrentWoven, AreLeftWoven}
+use Rattle.sarif_prepare.proofs.WovenLog.{before_few, before_flags, before_is_side, now_few, now_flags, now_is_side, states_given, taken_given, woven_places, woven_written}
+use Rattle.sarif_prepare.proofs.once.prepare_split.Goals as goal
+
+pub tell_sides-requires-clause-together : goal.tell_sides-requires-clause-together
+tell_sides-requires-clause-together g c κs within =
+    (without_copies c.requires.apart.0, without_copies c.requires.apart.1, c.requires.apart.2.together)
+
+pub weave_baselines-requires : goal.weave_baselines-requires
+weave_baselines-requires g c =
+    (c.requires.apart.0, c.requires.apart.1, c.requires.apart.2.whole, c.requires.apart.2.together.are_baselines, c.requires.apart.2.baseline_copies)
+
+pub weave_logs-requires : goal.weave_logs-requires
+weave_logs-requires g c =
+    (c.requires.apart.0, c.requires.apart.2.together.is_current, c.requires.apart.2.current_copies, c.requires.apart.2.whole.few_runs)
+
+pub invariant_of-result : goal.invariant_of-result
+invariant_of-result g c =
+    let file = c.args.rules.now.file.now in
+    let now = c.requires.apart.0 in
+    let before = c.requires.apart.1 in
+    let h = c.requires.apart.2 in
+    let v = c.args.asked.now.options.now.checks.matching in
+    let q = c.in_ok-paired.ensures.paired in
+    let xs = states_of v (records_of (without_copies now)) (records_of (without_copies before)) in
+    let states = c.deref-2.ensures.value ∙ states_given v file now before c.args.split.current c.args.split.baselines h.whole h.together _ q in
+    let taken = c.deref.ensures.value ∙ taken_given v file now before c.args.split.current c.args.split.baselines h.whole h.together _ q in
+    let left =
+    q.left (without_copies before) h.together.are_baselines
+    ∙ ap (λ ts. not_taken ts (baseline_drafts (without_copies before))) (sym c.deref.ensures.value) in
+    let long = ap length taken ∙ taken_long v (records_of (without_copies now)) (records_of (without_copies before)) in
+    let here = c.in_ok-side.ensures.woven xs now before states h.whole h.together.is_current h.current_copies in
+    let there = c.in_ok-left.ensures now before h.whole h.together.are_baselines h.baseline_copies long left in
+    let side = c.in_ok-side.field-0.side.side in
+    let other = c.in_ok-left.field-0.left.side in
+    let marks = c.in_ok-side.field-0.copies.items in
+    let flags = c.in_ok-left.field-0.copies.items in
+    let few = now_few file now before h.whole xs marks side here in
+    let few_left = before_few now before h.whole c.deref.result.now flags other there in record {
+      current_is = now_is_side file now before h.whole xs marks side here;
+      baseline_is = before_is_side now before h.whole c.deref.result.now flags other there;
+      few = omega (arith, few, few_left);
+      flags_of_current = ap Some (now_flags file now before h.whole xs marks side here);
+      flags_of_baseline = ap Some (before_flags now before h.whole c.deref.result.now flags other there);
+    }
+
+pub returns-clause-prepared : goal.returns-clause-prepared
+returns-clause-prepared g c = λ now before h.
+    let file = c.args.rules.now.file.now in
+    let v = c.args.asked.now.options.now.checks.matching in
+    let q = c.in_ok-paired.ensures.paired in
+    let tn = without_copies now in
+    let tb = without_copies before in
+    let xs = states_of v (records_of tn) (records_of tb) in
+    let current = c.args.split.current in
+    let baselines = c.args.split.baselines in
+    let states = c.deref-2.ensures.value ∙ states_given v file now before current baselines h.whole h.together _ q in
+    let taken = c.deref.ensures.value ∙ taken_given v file now before current baselines h.whole h.together _ q in
+    let left =
+    q.left tb h.together.are_baselines ∙ ap (λ ts. not_taken ts (baseline_drafts tb)) (sym c.deref.ensures.value) in
+    let long = ap length taken ∙ taken_long v (records_of tn) (records_of tb) in
+    let side = c.in_ok-side.field-0.side.side in
+    let other = c.in_ok-left.field-0.left.side in
+    let here = c.in_ok-side.ensures.woven xs now before states h.whole h.together.is_current h.current_copies in
+    let there =
+    subst (λ ts. AreLeftWoven ts before c.in_ok-left.field-0.copies.items other) taken
+    (c.in_ok-left.ensures now before h.whole h.together.are_baselines h.baseline_copies long left) in
+    let flags : CopyFlags = record { current = c.in_ok-side.field-0.copies; baseline = c.in_ok-left.field-0.copies } in
+    record {
+      written = woven_written v file now before current baselines h.whole h.together flags side other here there;
+      named = woven_places v file now before current baselines h.whole h.together flags side other here there;
+      without = c.in_ok-side.ensures.without now h.together.is_current h.current_copies;
+      unused =
+          c.in_ok-side.ensures.unused (records_of tn) (flat_map results_of (run_values tn))
+          (h.together.current_records ∙ sym (results_long (run_values tn))) h.together.is_current.drafts;
+      told = c.in_ok-paired.ensures.findings file tn tb h.together;
+    }
+
+pub returns-clause-kept : goal.returns-clause-kept
+returns-clause-kept g c = λ now before h. c.in_ok-paired.ensures.kept (without_copies now) (without_copies before) h.together
+
+pub returns-in_err-paired-clause-unkept : goal.returns-in_err-paired-clause-unkept
+returns-in_err-paired-clause-unkept g c = λ now before h.
+    let p = err_from_is_err_and c.from_residual.result c.from_residual.ensures.1 in
+    rw (p.1, p.2) (c.in_err-paired.ensures.unkept (without_copies now) (without_copies before) h.together)
