@@ -13,13 +13,8 @@ import sys
 from reference_arguments import NoArguments, Unread, replaced
 from reference_entries import read_rules
 from reference_json import Fault, compact, read_json, stripped
-<<<<<<< ours
 from reference_life import Known, PastLimit, Renewed, failed, file_of, happened, unused
-from reference_matching import has_evidence, partners, region_and_snippet, state
-=======
-from reference_life import Known, PastLimit, Renewed, failed, file_of, unused
 from reference_matching import fields, has_evidence, partners, region_and_snippet, state
->>>>>>> theirs
 from reference_members import KINDS, LEVELS, STATES, STATUSES, guid, index, objects, of_kind, one_of, texts
 
 MOST_LOGS = 1_000
@@ -471,13 +466,8 @@ def check_number(logs, baselines):
 USAGE = """Usage: sarif_gate [--baseline F]... [--suppress F] [--today N] [--workers N]
     [--fail-on L] [--states LIST] [--max N] [--suppress-out F] [--accept] [--prune]
     [--reason TEXT] [--until N] [--unused F] [--known F] [--adopt] [--require-success]
-<<<<<<< ours
-    [--allow-external-properties] [--matching N] [--ignore-fingerprint NAME]... [--explain] --out F
-    LOG... [@FILE]...
-=======
     [--allow-external-properties] [--matching N] [--ignore-fingerprint NAME]... [--once]
-    --out F LOG... [@FILE]...
->>>>>>> theirs
+    [--explain] --out F LOG... [@FILE]...
 """
 
 
@@ -491,11 +481,7 @@ class Usage(Exception):
 
 RANGES = {"today": (10000101, 99991231), "workers": (1, 64), "max": (0, 2**32 - 1), "matching": (2, 3)}
 VALUES = ("suppress", "out", "fail-on", "states", "suppress-out", "reason", "until", "unused", "known")
-<<<<<<< ours
-FLAGS = ("accept", "prune", "adopt", "explain", "require-success", "allow-external-properties")
-=======
-FLAGS = ("accept", "prune", "adopt", "require-success", "allow-external-properties", "once")
->>>>>>> theirs
+FLAGS = ("accept", "prune", "adopt", "explain", "require-success", "allow-external-properties", "once")
 # Only their names count here: reference_reports.py makes the reports.
 REPORTS = ("text", "github", "markdown", "gitlab", "html", "junit", "azure")
 
@@ -715,13 +701,10 @@ class Outputs:
             raise Refused(past.place, past.cause) from None
         if "unused" in given:
             self.files.append(("unused report", given["unused"], unused(merge)))
-<<<<<<< ours
-        if "explain" in given:
-            self.lines += happened(merge)
-=======
         if merge.checks.once:
             self.lines.append(f"sarif_gate: {len(merge.copies())} copies\n")
->>>>>>> theirs
+        if "explain" in given:
+            self.lines += happened(merge)
 
     def add(self, place, name, made):
         self.files.append((place, name, made.text))

@@ -67,19 +67,12 @@ same_large v file bytes policy now before xs ys upkeep fault h e f =
 -- what is assembled of what was prepared for these inputs
 pub assembled_is : (inputs : Inputs) (policy : Policy) (asked : Option Reporting) (upkeep : Option Upkeep) (prepared : Prepared) (merged : Merged)
     → IsPreparedFor inputs policy asked upkeep prepared
-<<<<<<< ours
-    → ((v : MatchingVersion) (file : File) (now before : List Placed) (told : Option Reporting) → IsPrepared v file now before told prepared
-    → IsMergedBy v file now before policy told merged)
+    → ((runs counted : List Data) (places : Option (List CopyPlace)) (bare idle : ℕ) (told : Option Reporting)
+    → IsPreparedAs runs counted places bare idle told prepared → IsMergedAs runs counted places policy bare idle told merged)
     → merged.expired ≡ prepared.expired
     → IsMerged inputs policy asked merged
 assembled_is inputs policy asked upkeep prepared merged ready assembled past =
-=======
-    → ((runs counted : List Data) (places : Option (List CopyPlace)) (bare idle : ℕ) (told : Option Reporting)
-    → IsPreparedAs runs counted places bare idle told prepared → IsMergedAs runs counted places policy bare idle told merged)
-    → IsMerged inputs policy asked merged
-assembled_is inputs policy asked upkeep prepared merged ready assembled =
     let checks = inputs.checks in
->>>>>>> theirs
     let entries = file_in (file_or_none inputs.suppressions inputs.today) in
     let logs = placed (numbered inputs.checks Log 0 inputs.logs) in
     let baselines = placed (numbered inputs.checks Baseline 0 inputs.baselines) in
@@ -96,7 +89,7 @@ assembled_is inputs policy asked upkeep prepared merged ready assembled =
       );
       log = made.written.log;
       gate = made.written.gate;
-      expired = past ∙ ready.written.expired;
+      expired = past ∙ ready.expired;
       told = made.told;
       copies = made.copies;
     }

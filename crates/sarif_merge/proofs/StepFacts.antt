@@ -238,9 +238,10 @@ none_left m file now before read logs baselines =
 pub is_ready : (m : Merging) (bytes : Option (List ℕ)) (file : File) (now before : Judged) (prepared : Prepared) → IsFileIn m file
     → AreLogsJudged m now → AreBaselinesJudged m before
     → bytes ≡ (inputs_in m).suppressions → IsPreparedBy (checks_in m) file (placed_in now) (placed_in before) (reporting_in m.asked.now) prepared
+    → ((rs : List Record) → prepared.expired ≡ expired_of file rs)
     → IsKept (merge_by (checks_in m) file bytes (policy_in m) (placed_in now) (placed_in before)) (upkeep_in m.asked.now) prepared.life → IsReady m prepared
 unfolding IsReady AreLogsJudged AreBaselinesJudged
-is_ready m bytes file now before prepared read logs baselines is ready kept =
+is_ready m bytes file now before prepared read logs baselines is ready past kept =
     let inputs = inputs_in m in
     let asked = reporting_in m.asked.now in
     let upkeep = upkeep_in m.asked.now in
@@ -250,6 +251,7 @@ is_ready m bytes file now before prepared read logs baselines is ready kept =
       written =
           subst (λ f. IsPreparedBy (checks_in m) f xs ys asked prepared) (same_file m file read)
           (same_runs (checks_in m) file (placed_in now) (placed_in before) xs ys asked prepared ready logs.0 baselines.0);
+      expired = past (current_of inputs) ∙ ap (λ f. expired_of f (current_of inputs)) (same_file m file read);
       kept = subst (λ f. IsKept (merge_by (checks_in m) f inputs.suppressions (policy_in m) xs ys) upkeep prepared.life) (same_file m file read)
           (subst (λ b. IsKept (merge_by (checks_in m) file b (policy_in m) xs ys) upkeep prepared.life) is
           (same_kept (checks_in m) file bytes (policy_in m) (placed_in now) (placed_in before) xs ys upkeep prepared.life kept logs.0 baselines.0));
@@ -280,15 +282,9 @@ rejected_life m bytes file now before fault read logs baselines is unkept =
 -- ---- assemble
 
 pub is_merge_of : (m : Merging) (prepared : Prepared) (merged : Merged) → IsReady m prepared
-<<<<<<< ours
-    → ((v : MatchingVersion) (file : File) (now before : List Placed) (told : Option Reporting) → IsPrepared v file now before told prepared
-    → IsMergedBy v file now before (policy_in m) told merged)
-    → merged.expired ≡ prepared.expired → merged.life ≡ prepared.life → IsMergeOf m merged
-=======
     → ((runs counted : List Data) (places : Option (List CopyPlace)) (bare idle : ℕ) (told : Option Reporting)
     → IsPreparedAs runs counted places bare idle told prepared → IsMergedAs runs counted places (policy_in m) bare idle told merged)
-    → merged.life ≡ prepared.life → IsMergeOf m merged
->>>>>>> theirs
+    → merged.expired ≡ prepared.expired → merged.life ≡ prepared.life → IsMergeOf m merged
 unfolding IsReady IsMergeOf
 is_merge_of m prepared merged ready assembled past same = (
   assembled_is (inputs_in m) (policy_in m) (reporting_in m.asked.now) (upkeep_in m.asked.now) prepared merged ready assembled past,

@@ -10,11 +10,7 @@ use Rattle.sarif_log.specs.Assembled.{HasGate}
 use Rattle.sarif_log.specs.Told.{told_of}
 use Rattle.sarif_inputs.specs.Faults.{faults_of}
 use Rattle.sarif_inputs.specs.Inputs.{Inputs}
-<<<<<<< ours
-use Rattle.sarif_merge.specs.MergedLog.{expired_in, output_text, runs_written, unused_in, without_of, written_inputs}
-=======
-use Rattle.sarif_merge.specs.MergedLog.{copies_in_log, inputs_in_log, output_text, runs_counted, unused_counted, without_of}
->>>>>>> theirs
+use Rattle.sarif_merge.specs.MergedLog.{copies_in_log, expired_in, inputs_in_log, output_text, runs_counted, unused_counted, without_of}
 
 -- the text begins with these runs, and goes on with others
 abbrev pub HoldsFirst : List Data → List ℕ → Type 0
@@ -22,23 +18,14 @@ HoldsFirst runs text =
     (gate : Data) × (rest : List Data) × (text ≡ compact_text (log_with gate (runs ++ rest)))
 
 -- there are no errors, and the result is the defined merge: its text begins with the input runs, it is the text of
-<<<<<<< ours
--- the merged log, counts, verdict and numbers are those of that log, unused entries that are expired are counted too, and
--- the findings are those of its results
-=======
--- the merged log, and counts, verdict, numbers and findings are those of the results in it that are counted
->>>>>>> theirs
+-- the merged log, counts, verdict, numbers and findings are those of the results in it that are counted, and unused
+-- entries that are expired are counted too
 pub record IsMerged (inputs : Inputs) (policy : Policy) (asked : Option Reporting)
     (merged : Merged) : Type 0 where
   pub faultless : faults_of inputs ≡ []
   pub begins : HoldsFirst (inputs_in_log inputs) merged.log
   pub log : merged.log ≡ output_text inputs policy
-<<<<<<< ours
-  pub gate : HasGate (runs_written inputs) policy (without_of inputs) (unused_in inputs) merged
-  pub expired : merged.expired ≡ expired_in inputs
-  pub told : merged.findings.items ≡ told_of asked (runs_written inputs)
-=======
   pub gate : HasGate (runs_counted inputs) policy (without_of inputs) (unused_counted inputs) merged
+  pub expired : merged.expired ≡ expired_in inputs
   pub told : merged.findings.items ≡ told_of asked (runs_counted inputs)
   pub copies : merged.copies ≡ option_map length (copies_in_log inputs)
->>>>>>> theirs

@@ -8,12 +8,8 @@ use Rattle.sarif_suppress.specs.Suppressing.{unused_of}
 use Rattle.sarif_entries.specs.declared.fault.FileFault.{FileFault}
 use Rattle.sarif_options.specs.declared.policy.Policy.{Policy}
 use Rattle.sarif_runs.specs.Judging.{records_of, run_values}
-<<<<<<< ours
-use Rattle.sarif_log.specs.LogBy.{current_runs, expired_of, merged_by, runs_by, runs_without_results}
-=======
-use Rattle.sarif_log.specs.LogBy.{current_runs, runs_by, runs_without_results}
+use Rattle.sarif_log.specs.LogBy.{current_runs, expired_of, runs_by, runs_without_results}
 use Rattle.sarif_log.specs.declared.copies.CopyPlace.{CopyPlace}
->>>>>>> theirs
 use Rattle.sarif_entries.specs.Given.{file_or_none}
 use Rattle.sarif_inputs.specs.Inputs.{Inputs, input_runs, baseline_runs}
 use Rattle.sarif_prepare.specs.By.{copies_if, counted_if, inputs_if, logged_by, runs_counted_if, written_if}
@@ -49,11 +45,10 @@ without_of inputs = runs_without_results (run_values (input_runs inputs))
 abbrev pub unused_in : Inputs → ℕ
 unused_in inputs = unused_of (file_given inputs) (current_of inputs)
 
-<<<<<<< ours
 -- how many of these are expired
 abbrev pub expired_in : Inputs → ℕ
 expired_in inputs = expired_of (file_given inputs) (current_of inputs)
-=======
+
 -- ---- copies that aren't counted
 
 -- the input runs as they are written, if copies may not be counted: a copy has the state of its finding
@@ -85,7 +80,6 @@ unused_counted inputs =
     unused_of (file_given inputs) (records_of (counted_if inputs.checks.once (input_runs inputs)))
 
 -- ---- the log
->>>>>>> theirs
 
 abbrev pub merged_log : Inputs → Policy → Data
 merged_log inputs policy =

@@ -9,11 +9,7 @@ ghost use Rattle.sarif_inputs.specs.Faults.{faults_of, first_fault};
 ghost use Rattle.sarif_merge.specs.Given.{inputs_of};
 ghost use Rattle.sarif_merge.specs.Life.{IsLifeOf, IsRefusal, no_life};
 ghost use Rattle.sarif_merge.specs.Merged.{HoldsFirst, IsMerged};
-<<<<<<< ours
-ghost use Rattle.sarif_merge.specs.MergedLog.{expired_in, output_text, runs_written, without_of, unused_in, written_inputs};
-=======
-ghost use Rattle.sarif_merge.specs.MergedLog.{copies_in_log, inputs_in_log, output_text, runs_counted, unused_counted, without_of};
->>>>>>> theirs
+ghost use Rattle.sarif_merge.specs.MergedLog.{copies_in_log, expired_in, inputs_in_log, output_text, runs_counted, unused_counted, without_of};
 ghost use Rattle.sarif_merge.specs.Internal.Steps.{AreBaselinesOpened, AreLogsOpened, IsFileIn, IsReady, IsRejection};
 ghost use Rattle.sarif_model.specs.Limits.{most_sources};
 
@@ -141,19 +137,14 @@ pub fn merge_bytes<G: Gate + Sync, R: Threads + Wait + Sync>(
         ≡ output_text (inputs_of sources.now options.now) options.now.policy) }
     // Counts, verdict and numbers are those of the results that are written and counted.
     ensures gate { let inputs = inputs_of sources.now options.now in
-<<<<<<< ours
-        IfOk result (HasGate (runs_written inputs) options.now.policy (without_of inputs)
-        (unused_in inputs)) }
+        IfOk result (HasGate (runs_counted inputs) options.now.policy (without_of inputs)
+        (unused_counted inputs)) }
     // The number of unused entries that are expired is counted.
     ensures expired { IfOk result
         (λ merged. merged.expired ≡ expired_in (inputs_of sources.now options.now)) }
-=======
-        IfOk result (HasGate (runs_counted inputs) options.now.policy (without_of inputs)
-        (unused_counted inputs)) }
     // If copies aren't counted, the gate names them, and there are that many.
     ensures copies { IfOk result (λ merged. merged.copies
         ≡ option_map length (copies_in_log (inputs_of sources.now options.now))) }
->>>>>>> theirs
     // The merge has no findings.
     ensures untold { IfOk result (λ merged. merged.findings.items ≡ []) }
     // Nothing is for later merges.

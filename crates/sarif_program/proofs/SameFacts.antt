@@ -24,12 +24,8 @@ same_facts request merged facts are = λ i. record {
 
 -- the lines of the merge are those of these facts
 pub same_lines : (request : Request) (merged : Merged) (facts : MergeFacts) → AreFactsOf merged facts → lines_with request facts ≡ lines_for request merged
-<<<<<<< ours
-same_lines request merged facts are = λ i. lines_of (are.life i) ++ happened_if request.explain (are.without i) (are.unused i) (are.expired i)
-=======
 same_lines request merged facts are =
-    λ i. lines_of (are.life i) ++ (copies_line (are.copies i) ++ happened_if request.explain (are.without i) (are.unused i))
->>>>>>> theirs
+    λ i. lines_of (are.life i) ++ (copies_line (are.copies i) ++ happened_if request.explain (are.without i) (are.unused i) (are.expired i))
 
 -- there is no line on what is not there, and none on what happened without explanations
 pub no_lines : (request : Request) (merged : Merged) → merged.life.suppressions ≡ None → merged.life.known ≡ None → merged.copies ≡ None

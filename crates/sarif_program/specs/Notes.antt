@@ -68,21 +68,15 @@ happened_if explain without unused expired =
 abbrev pub lines_with : Request → MergeFacts → List ℕ
 lines_with request facts =
     lines_of facts.life.now
-<<<<<<< ours
-    ++ happened_if request.explain facts.without facts.unused facts.expired
-=======
-    ++ (copies_line facts.copies ++ happened_if request.explain facts.without facts.unused)
->>>>>>> theirs
+    ++ (copies_line facts.copies
+    ++ happened_if request.explain facts.without facts.unused facts.expired)
 
 -- all lines of this merge
 abbrev pub lines_for : Request → Merged → List ℕ
 lines_for request merged =
     lines_of merged.life
-<<<<<<< ours
-    ++ happened_if request.explain merged.without merged.unused merged.expired
-=======
-    ++ (copies_line merged.copies ++ happened_if request.explain merged.without merged.unused)
->>>>>>> theirs
+    ++ (copies_line merged.copies
+    ++ happened_if request.explain merged.without merged.unused merged.expired)
 
 -- these lines were written, or a prefix of them if a write failed; no error was reported, and nothing was written if
 -- there are no lines

@@ -26,13 +26,6 @@ pub(crate) fn lines_with(
     Text::from_string(lines)
 }
 
-<<<<<<< ours
-/// Adds a line on runs without results, one on unused entries and one on those of them that are expired, each if there
-/// are any.
-fn push_happened(alloc: Global, lines: &mut String, facts: &Facts<'_>) -> Result<(), AllocError>
-    ensures { OnOk result (string_bytes lines.new ≡ string_bytes lines.old
-        ++ said.happened facts.now.without facts.now.unused facts.now.expired) }
-=======
 /// Returns the line on copies, if copies aren't counted.
 fn copies_line(alloc: Global, copies: Option<u64>) -> Result<String, AllocError>
     ensures { IfOk result (λ s. string_bytes s ≡ said.copies_line copies) }
@@ -43,16 +36,11 @@ fn copies_line(alloc: Global, copies: Option<u64>) -> Result<String, AllocError>
     }
 }
 
-/// Adds a line on runs without results and one on unused entries, each if there are any.
-fn push_happened(
-    alloc: Global,
-    lines: &mut String,
-    without: u32,
-    unused: u32,
-) -> Result<(), AllocError>
-    ensures { OnOk result (string_bytes lines.new
-        ≡ string_bytes lines.old ++ said.happened without unused) }
->>>>>>> theirs
+/// Adds a line on runs without results, one on unused entries and one on those of them that are expired, each if there
+/// are any.
+fn push_happened(alloc: Global, lines: &mut String, facts: &Facts<'_>) -> Result<(), AllocError>
+    ensures { OnOk result (string_bytes lines.new ≡ string_bytes lines.old
+        ++ said.happened facts.now.without facts.now.unused facts.now.expired) }
 {
     lines.push_str(runs_line(alloc, facts.without)?.as_str())?;
     lines.push_str(entries_line(alloc, facts.unused)?.as_str())?;

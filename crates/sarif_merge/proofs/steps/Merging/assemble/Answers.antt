@@ -3,9 +3,5 @@ use Rattle.sarif_merge.proofs.steps.Merging.assemble.Goals as goal
 
 pub returns-clause-merged : goal.returns-clause-merged
 returns-clause-merged g c =
-<<<<<<< ours
-    is_merge_of c.args.self.now c.args.prepared c.in_ok-made.made.0 c.requires.prepared c.in_ok-made.ensures.merged c.in_ok-made.ensures.expired
+    is_merge_of c.args.self.now c.args.prepared c.in_ok-made.made.0 c.requires.prepared c.in_ok-made.ensures.counted c.in_ok-made.ensures.expired
     c.in_ok-made.ensures.life
-=======
-    is_merge_of c.args.self.now c.args.prepared c.in_ok-made.made.0 c.requires.prepared c.in_ok-made.ensures.counted c.in_ok-made.ensures.life
->>>>>>> theirs

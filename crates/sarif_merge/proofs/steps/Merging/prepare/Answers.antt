@@ -27,4 +27,5 @@ returns-in_err-prepared-clause-refused g c =
 pub returns-clause-prepared : goal.returns-clause-prepared
 returns-clause-prepared g c =
     is_ready c.args.self.now (option_map (λ b. b.now) c.slice_of.result) c.args.file.now c.args.logs c.args.baselines c.in_ok-prepared.prepared
-    c.requires.file c.requires.logs c.requires.baselines c.slice_of.ensures c.in_ok-prepared.ensures.prepared c.in_ok-prepared.ensures.kept
+    c.requires.file c.requires.logs c.requires.baselines c.slice_of.ensures c.in_ok-prepared.ensures.prepared c.in_ok-prepared.ensures.expired
+    c.in_ok-prepared.ensures.kept
