@@ -9,7 +9,7 @@ use Rattle.std.proofs.lemmas.List.Folds.{drop_split}
 use Rattle.std.proofs.lemmas.Str.{encode_ascii, encodes-chars}
 use Rattle.std.proofs.lemmas.Bool.{or_parts}
 use Rattle.sarif_shown.specs.declared.escaping.Escaping.{Escaping}
-use Rattle.sarif_shown.specs.declared.escaping.Escaping.TheVariants.{Message, Property, Markdown, Page, Place, IssueMessage, IssueProperty}
+use Rattle.sarif_shown.specs.declared.escaping.Escaping.TheVariants.{Message, Property, Markdown, Page, IssueMessage, IssueProperty}
 use Rattle.sarif_shown.specs.Escaped.{escaped, escaped_char}
 use Rattle.sarif_shown.specs.Internal.EscapedBytes.{escapes, escaped_byte}
 use Rattle.sarif_findings.proofs.HighBytes.{char_kept}
@@ -21,7 +21,6 @@ escapes_low Message b h = grind (arith, nat_tests, h)
 escapes_low Property b h = grind (arith, nat_tests, h)
 escapes_low Markdown b h = grind (arith, nat_tests, h)
 escapes_low Page b h = grind (arith, nat_tests, h)
-escapes_low Place b h = grind (arith, nat_tests, h)
 escapes_low IssueMessage b h = grind (arith, nat_tests, h)
 escapes_low IssueProperty b h = grind (arith, nat_tests, h)
 
@@ -30,7 +29,6 @@ no_high Message b high = grind (arith, nat_tests, high)
 no_high Property b high = grind (arith, nat_tests, high)
 no_high Markdown b high = grind (arith, nat_tests, high)
 no_high Page b high = grind (arith, nat_tests, high)
-no_high Place b high = grind (arith, nat_tests, high)
 no_high IssueMessage b high = grind (arith, nat_tests, high)
 no_high IssueProperty b high = grind (arith, nat_tests, high)
 
@@ -47,11 +45,6 @@ five_ways true b d e f p q r s t x h = cc
 five_ways false true d e f p q r s t x h = cc
 five_ways false false d e f p q r s t x h = three_ways d e f r s t x h
 
-six_ways : (z a b d e f : Bool) (o p q r s t x : List ℕ) → (z || (a || (b || (d || (e || f))))) ≡ false
-    → (if z then o else (if a then p else (if b then q else (if d then r else (if e then s else (if f then t else x)))))) ≡ x
-six_ways true a b d e f o p q r s t x h = cc
-six_ways false a b d e f o p q r s t x h = five_ways a b d e f p q r s t x h
-
 -- the other characters are unchanged
 as_it_stands : (way : Escaping) (c : ℕ) → escapes way c ≡ false → escaped_char way c ≡ encode_utf8 c
 as_it_stands Message c h = rw h refl
@@ -59,9 +52,6 @@ as_it_stands Property c h = three_ways (c == 37) (c == 58) (c == 44) (codes "%25
 as_it_stands Markdown c h = rw h refl
 as_it_stands Page c h =
     five_ways (c == 38) (c == 60) (c == 62) (c == 34) (c == 39) (codes "&amp;") (codes "&lt;") (codes "&gt;") (codes "&quot;") (codes "&#39;") (encode_utf8 c) h
-as_it_stands Place c h =
-    six_ways (c == 47) (c == 38) (c == 60) (c == 62) (c == 34) (c == 39) (codes "/<wbr>") (codes "&amp;") (codes "&lt;") (codes "&gt;")
-    (codes "&quot;") (codes "&#39;") (encode_utf8 c) h
 as_it_stands IssueMessage c h = rw h refl
 as_it_stands IssueProperty c h = three_ways (c == 37) (c == 59) (c == 93) (codes "%AZP25") (codes "%3B") (codes "%5D") (encode_utf8 c) h
 

@@ -3,7 +3,7 @@ use Rattle.std.specs.Prelude.{ℕ, Bool, ◌||◌, List, ◌==◌, ◌++◌, cod
 use Rattle.std.specs.Fmt.{decimal}
 use Rattle.sarif_findings.specs.Shown.{is_between}
 use Rattle.sarif_shown.specs.declared.escaping.Escaping.{Escaping}
-use Rattle.sarif_shown.specs.declared.escaping.Escaping.TheVariants.{Message, Property, Markdown, Page, Place, IssueMessage, IssueProperty}
+use Rattle.sarif_shown.specs.declared.escaping.Escaping.TheVariants.{Message, Property, Markdown, Page, IssueMessage, IssueProperty}
 
 -- a character of a workflow command's message
 abbrev pub message_char : ℕ → List ℕ
@@ -35,10 +35,6 @@ page_char c =
     if c == 34 then codes "&quot;" else (
     if c == 39 then codes "&#39;" else encode_utf8 c))))
 
--- a character of a path in a page: the path may be broken after a slash
-abbrev pub place_char : ℕ → List ℕ
-place_char c = if c == 47 then codes "/<wbr>" else page_char c
-
 -- a character of a logging command's message
 abbrev pub issue_message_char : ℕ → List ℕ
 issue_message_char c = if c == 37 then codes "%AZP25" else encode_utf8 c
@@ -55,7 +51,6 @@ escaped_char Message c = message_char c
 escaped_char Property c = property_char c
 escaped_char Markdown c = markdown_char c
 escaped_char Page c = page_char c
-escaped_char Place c = place_char c
 escaped_char IssueMessage c = issue_message_char c
 escaped_char IssueProperty c = issue_property_char c
 

@@ -62,8 +62,6 @@ pub enum Escaping {
     Markdown,
     /// The text of an element of a page or of XML, or of an attribute.
     Page,
-    /// A path in a page, which may be broken after a slash.
-    Place,
     /// The message of a logging command of Azure Pipelines.
     IssueMessage,
     /// A property of a logging command of Azure Pipelines.
@@ -72,7 +70,7 @@ pub enum Escaping {
 
 impl Escaping {
     ghost use Rattle.sarif_shown.specs.Escaped.{escaped_char, escaped, message_char, property_char};
-    ghost use Rattle.sarif_shown.specs.Escaped.{markdown_char, is_mark, page_char, place_char};
+    ghost use Rattle.sarif_shown.specs.Escaped.{markdown_char, is_mark, page_char};
     ghost use Rattle.sarif_shown.specs.Escaped.{issue_message_char, issue_property_char};
     ghost use Rattle.sarif_shown.specs.Internal.EscapedBytes.{escapes};
     ghost use Rattle.std.specs.List.{list_any};
@@ -132,16 +130,6 @@ impl Escaping {
         Ok(())
     }
 
-    fn push_place(text: &mut String, c: char) -> Result<(), AllocError>
-        ensures { OnOk result (string_bytes text.new ≡ string_bytes text.old ++ place_char c) }
-    {
-        match c {
-            '/' => text.push_str("/<wbr>")?,
-            _ => Escaping::push_page(text, c)?,
-        }
-        Ok(())
-    }
-
     fn push_issue_message(text: &mut String, c: char) -> Result<(), AllocError>
         ensures { OnOk result
             (string_bytes text.new ≡ string_bytes text.old ++ issue_message_char c) }
@@ -175,7 +163,6 @@ impl Escaping {
             Escaping::Property => Escaping::push_property(text, c)?,
             Escaping::Markdown => Escaping::push_markdown(alloc, text, c)?,
             Escaping::Page => Escaping::push_page(text, c)?,
-            Escaping::Place => Escaping::push_place(text, c)?,
             Escaping::IssueMessage => Escaping::push_issue_message(text, c)?,
             Escaping::IssueProperty => Escaping::push_issue_property(text, c)?,
         }
@@ -191,7 +178,6 @@ impl Escaping {
             Escaping::Property => matches!(byte, b'%' | b':' | b','),
             Escaping::Markdown => Escaping::is_mark(byte as char),
             Escaping::Page => matches!(byte, b'&' | b'<' | b'>' | b'"' | b'\''),
-            Escaping::Place => matches!(byte, b'/' | b'&' | b'<' | b'>' | b'"' | b'\''),
             Escaping::IssueMessage => byte == b'%',
             Escaping::IssueProperty => matches!(byte, b'%' | b';' | b']'),
         }
