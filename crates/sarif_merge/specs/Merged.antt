@@ -18,7 +18,7 @@ HoldsFirst runs text =
     (gate : Data) × (rest : List Data) × (text ≡ compact_text (log_with gate (runs ++ rest)))
 
 -- there are no errors, and the result is the defined merge: its text begins with the input runs, it is the text of
--- the merged log, counts, verdict and numbers are those of that log, unused entries that are expired are counted too, and
+-- the merged log, counts, verdict and numbers are those of that log, expired entries are counted among the unused, and
 -- the findings are those of its results
 pub record IsMerged (inputs : Inputs) (policy : Policy) (asked : Option Reporting)
     (merged : Merged) : Type 0 where
