@@ -14,7 +14,7 @@ complete -c sarif_gate -l matching -x -d 'How results match the baseline: 2 is b
 complete -c sarif_gate -l out -r -F -d 'Write the merged log to FILE'
 complete -c sarif_gate -l root -x -d 'Prefix to strip from paths in reports, for example file:///builds/app/'
 complete -c sarif_gate -l show -x -d 'Which results reports show: hits (only the hits) or all'
-complete -c sarif_gate -l link -x -d 'Link places in Markdown'
+complete -c sarif_gate -l link -x -d 'Link places in Markdown and on the page'
 complete -c sarif_gate -l text -r -F -d 'Write one line per reported result, for people, editors and problem matchers'
 complete -c sarif_gate -l github -r -F -d 'Write one workflow command of GitHub Actions per reported result'
 complete -c sarif_gate -l markdown -r -F -d 'Write the verdict, the counts and a table, for job summaries and comments'

@@ -18,8 +18,8 @@ HoldsFirst runs text =
     (gate : Data) × (rest : List Data) × (text ≡ compact_text (log_with gate (runs ++ rest)))
 
 -- there are no errors, and the result is the defined merge: its text begins with the input runs, it is the text of
--- the merged log, counts, verdict, numbers and findings are those of the results in it that are counted, and unused
--- entries that are expired are counted too
+-- the merged log; counts, verdict, numbers and findings are those of the results in it that are counted, and expired
+-- entries are counted among the unused
 pub record IsMerged (inputs : Inputs) (policy : Policy) (asked : Option Reporting)
     (merged : Merged) : Type 0 where
   pub faultless : faults_of inputs ≡ []

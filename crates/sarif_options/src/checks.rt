@@ -16,8 +16,8 @@ pub struct Checks {
     pub allow_external: bool,
     /// By which version results are matched. Version 3 reads regions and snippets.
     pub matching: MatchingVersion,
-    /// Whether a result that is equal to an earlier one, its region too, is neither matched nor counted: it is a copy. Then
-    /// regions and snippets are read.
+    /// Whether copies aren't counted, so that regions and snippets are read. A copy is a result with a URI and a region
+    /// that is equal to an earlier one (SARIF 2.1.0, "region object").
     pub once: bool,
     /// The names of fingerprints that are ignored: results are taken as if they had none with these names (SARIF
     /// 2.1.0, "fingerprints property", "partialFingerprints property").
@@ -26,7 +26,7 @@ pub struct Checks {
 
 impl Checks {
     /// Accepts runs whose analysis failed, rejects each run that names external property files, matches by version 2,
-    /// counts each result and ignores no fingerprint. Does not allocate.
+    /// counts copies and ignores no fingerprint. Does not allocate.
     pub fn new(alloc: Global) -> Checks
         ensures { result ≡ record {
           require_success = false;

@@ -200,8 +200,8 @@ static ROWS: [OptionRow; 25] = [
     OptionRow {
         id: "root",
         value: "PREFIX",
-        help: "Prefix to strip from paths in reports, for example file:///builds/app/. Of\n\
-            the prefixes that fit, the first is stripped. May be repeated",
+        help: "Prefix to strip from paths in reports, for example file:///builds/app/.\n\
+            The first prefix that fits is stripped. May be repeated",
         group: Group::Outputs,
         kind: OptionKind::Many,
         default: None,
@@ -218,8 +218,8 @@ static ROWS: [OptionRow; 25] = [
     OptionRow {
         id: "link",
         value: "TEMPLATE",
-        help: "Link places in Markdown. TEMPLATE is an address with {path} and {line},\n\
-            for example https://host/repo/blob/SHA/{path}#L{line}",
+        help: "Link places in Markdown and on the page. TEMPLATE is an address with\n\
+            {path} and {line}, for example https://host/repo/blob/SHA/{path}#L{line}",
         group: Group::Outputs,
         kind: OptionKind::Once,
         default: None,
@@ -282,7 +282,8 @@ static ROWS: [OptionRow; 25] = [
         value: "",
         help: "After an error, also print the file, the position in it, what was found\n\
             there, what was expected and what to do. After an accepted merge, print\n\
-            how many runs have no results and how many suppressions match nothing",
+            how many runs have no results, and how many suppression entries match\n\
+            nothing or have expired",
         group: Group::Other,
         kind: OptionKind::Flag,
         default: None,
