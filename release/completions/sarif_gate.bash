@@ -21,10 +21,10 @@ _sarif_gate() {
     esac
     if [[ $word == -* ]]; then
         mapfile -t COMPREPLY < <(compgen -W '--baseline --suppress --today --require-success --allow-external-properties
-            --ignore-fingerprint --fail-on --states --max --matching --out --root --show
-            --link --text --github --markdown --gitlab --html --junit --azure --unused
-            --accept --prune --reason --until --adopt --suppress-out --known --workers
-            --explain --help -h --version -V' -- "$word")
+            --ignore-fingerprint --fail-on --states --max --matching --once --out --root
+            --show --link --text --github --markdown --gitlab --html --junit --azure
+            --unused --accept --prune --reason --until --adopt --suppress-out --known
+            --workers --explain --help -h --version -V' -- "$word")
         return
     fi
     if [[ $word == @* ]]; then

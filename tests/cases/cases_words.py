@@ -133,6 +133,8 @@ def usage():
         "--require-success --require-success",
         "--require-success=true",
         "--allow-external-properties --allow-external-properties",
+        "--once --once",
+        "--once=1",
         "--allow-external",
     ]
     for words in wrong:
@@ -222,7 +224,7 @@ def says_usage(answer):
 
 
 OPTIONS = ("--baseline", "--suppress", "--today", "--workers", "--fail-on", "--max", "--out")
-OPTIONS += ("--require-success", "--allow-external-properties", "--matching", "--ignore-fingerprint")
+OPTIONS += ("--require-success", "--allow-external-properties", "--matching", "--once", "--ignore-fingerprint")
 
 
 def says_help(answer):

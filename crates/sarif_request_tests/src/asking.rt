@@ -203,6 +203,15 @@ fn the_version_of_matching_is_read(rt: HostRuntime) -> Result<(), Fail> {
 }
 
 #[test]
+fn whether_copies_are_counted_is_read(rt: HostRuntime) -> Result<(), Fail> {
+    for (line, once) in [("a --out o", false), ("a --once --out o", true)] {
+        let request = accepted(&rt, line)?;
+        assert_eq!(rt; request.options.checks.once, once);
+    }
+    Ok(())
+}
+
+#[test]
 fn each_ignored_name_is_read(rt: HostRuntime) -> Result<(), Fail> {
     let line =
         "--ignore-fingerprint f/v1 a --out o --ignore-fingerprint= --ignore-fingerprint f/v1";
@@ -334,6 +343,8 @@ fn wrong_words_are_usage(rt: HostRuntime) -> Result<(), Fail> {
         "a --out o --explain --explain",
         "a --out o --require-success --require-success",
         "a --out o --allow-external-properties=true",
+        "a --out o --once --once",
+        "a --out o --once=1",
         "a --out o --explain=true",
         "a --out o --text",
         "a --out o --states=",
