@@ -28,7 +28,7 @@ ghost use Rattle.sarif_findings.specs.Shown.{shown_chars};
 ghost use Rattle.sarif_findings.specs.ShownLaws.{are_seen};
 ghost use Rattle.sarif_shown.specs.declared.terminal_lines.Screen.TheVariants.{Plain, Coloured};
 ghost use Rattle.sarif_shown.specs.TerminalLaws.{unstyled};
-ghost use Rattle.sarif_shown.specs.TerminalReport.{most_shown, screen_line};
+ghost use Rattle.sarif_shown.specs.TerminalReport.{most_shown, screen_line, terminal_of};
 ghost use Rattle.sarif_shown.specs.TextLaws.{IsTextOfLines};
 ghost use Rattle.sarif_shown.specs.TextReport.{text_line, text_lines_of};
 ghost use Rattle.sarif_shown.specs.Unshown.{unshown_number};
@@ -120,12 +120,16 @@ pub fn text_reports_have_a_line_a_result()
 {}
 
 /// A terminal shows each hit or counts it: the first hits have a line each. A line without colours is that of the text
-/// report, and so is a line with colours after its control sequences are taken out. So no log writes a control sequence.
+/// report, and so is a line with colours after its control sequences are taken out. If they are taken out of all that a
+/// coloured screen shows, what is left is what a plain one shows. So no log writes a control sequence.
 pub fn terminals_show_the_hits()
     ensures plain { (f : Finding) → screen_line Plain f ≡ text_line f }
     ensures coloured { (reporting : Reporting) (log : Data) →
         AllByRecursion (λ f. unstyled (screen_line Coloured f) ≡ text_line f)
         (reported_of reporting log) }
+    ensures whole { (reporting : Reporting) (log : Data) →
+        unstyled (terminal_of Coloured (reported_of reporting log))
+        ≡ terminal_of Plain (reported_of reporting log) }
     ensures lines { (reporting : Reporting) (log : Data) →
         IsTextOfLines (length (take most_shown (hits_among (reported_of reporting log))))
         (flat_map text_line (take most_shown (hits_among (reported_of reporting log)))) }
