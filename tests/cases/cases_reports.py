@@ -9,6 +9,7 @@ import hostile_logs as hostile
 import reference
 from azure_reader import azure_faults
 from cases import *
+from markdown_reader import markdown_faults
 from page_reader import page_faults
 from reference_reports import Policy, Reports
 from xml_reader import xml_faults
@@ -79,7 +80,7 @@ class Reporting(Case):
 
 NAMES = ("txt", "github.txt", "md", "gitlab.json", "html", "junit.xml", "azure.txt")
 ENDINGS = dict(zip(KINDS, NAMES))
-READERS = {"junit": xml_faults, "azure": azure_faults}
+READERS = {"markdown": markdown_faults, "junit": xml_faults, "azure": azure_faults}
 
 
 def kept_name(name, kind):

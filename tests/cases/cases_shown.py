@@ -5,6 +5,7 @@ from itertools import groupby
 
 from cases import *
 from cases_words import merging
+from markdown_reader import faults_beside_log
 
 GUID = "0f14d0ab-9605-4a62-a9e4-5ed26688389b"
 
@@ -20,7 +21,8 @@ def report(name, given, wanted, more=(), **others):
                 wrong += [f"{kind}: {difference(report.encode(), found and found.encode())}"] * (found != report)
             else:
                 wrong += [f"{kind}: {it}" for it in report(found or "")]
-        return wrong
+        is_read = (folder / "markdown").is_file()
+        return wrong + [f"markdown: {it}" for it in (faults_beside_log(folder, more) if is_read else [])]
 
     words = [it for kind in wanted for it in (f"--{kind}", kind)]
     return merging("rows", name, [given], more=[*words, *more], look=look, **others)

@@ -434,11 +434,8 @@ class Reports:
         lines += [""] * bool(self.notes()) + self.notes()
         if self.results:
             lines += ["", markdown_row("hit", "level", *SHOWN, "state"), "|---" * 7 + "|"]
-            rows = self.markdown_rows()
-            others = self.listed()[len(rows) :]
-            lines += rows + ["", more_line(others)] * bool(others)
-        lines += ["", unshown_line(self.unshown)] * bool(self.unshown)
-        lines += ["", accept_line(self.hits())] * bool(self.hits())
+            lines += self.markdown_rows()
+        lines += [it for end in self.ends() for it in ("", end)]
         return "".join(f"{line}\n" for line in lines).encode()
 
     def gate(self):
@@ -457,6 +454,12 @@ class Reports:
             entries = "suppression entry matches nothing."
         said = (without, runs), (unused, entries)
         return [f"{number} {sentence}" for number, sentence in said if number]
+
+    def ends(self):
+        """The sentences after the table: on results without a row, on those that aren't shown, and on accepting hits."""
+        others = self.listed()[len(self.markdown_rows()) :]
+        said = (others, more_line), (self.unshown, unshown_line), (self.hits(), accept_line)
+        return [line(it) for it, line in said if it]
 
     def markdown_rows(self):
         """The rows of the first listed results, as many as fit."""
