@@ -8,7 +8,7 @@ What causes much work in the costly input causes little in the twin.
 from shape_parts import LONG, MEGABYTE, OTHER_HASH, SAME_HASH, Input
 from shape_parts import at, entries, hashed, in_region, log, logs_of, message, placed, run
 from shapes_fifth import accepted_by_snippet, entries_of_one_snippet, entries_of_snippets, of_message, of_print
-from shapes_shown import told_files, told_long_snippets, told_snippets
+from shapes_shown import told_files, told_long_snippets, told_names, told_snippets
 
 # ---- A long string that many results share
 
@@ -589,9 +589,10 @@ SHAPES = {
     "told_brackets": (told_brackets, 1_000_000),
     "told_links": (told_links, 200_000),
     "told_open_links": (told_open_links, 2_000),
-    # Code that reports show, and files with a group each.
+    # Code and names of rules that reports show, and files with a group each.
     "told_long_snippets": (told_long_snippets, 6_000),
     "told_snippets": (told_snippets, 100_000),
+    "told_names": (told_names, 20_000),
     "told_files": (told_files, 100_000),
     "fractions": (fractions, 100_000),
     "fractions_in_lists": (fractions_in_lists, 200_000),

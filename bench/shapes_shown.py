@@ -1,12 +1,13 @@
-"""Costly inputs whose reports show code or many files, each with its twin."""
+"""Costly inputs whose reports show code, names of rules or many files, each with its twin."""
 
-from shape_parts import Input, at, in_region, logs_of, message
+from shape_parts import LONG, Input, at, in_region, log, logs_of, message, run
 
 LINE = "n" * 79 + "\n"
 
 
 def told(results):
-    return Input(logs_of(results, 50_000), are_reported=True)
+    """An input whose results are hits, so that reports tell all that they tell of a hit."""
+    return Input(logs_of([{**it, "level": "error"} for it in results], 50_000), are_reported=True)
 
 
 def told_long_snippets(count):
@@ -28,3 +29,14 @@ def told_files(count):
     """Results in as many files, compared with results in one."""
     for is_one in (False, True):
         yield told([message(f"{i:06}", **at(f"src/{0 if is_one else i:06}.c")) for i in range(count)])
+
+
+def told_names(count):
+    """Results of a rule for each hundred of them, whose name is its long id, and whose description differs only at the end,
+    compared with members that aren't read."""
+    for name, description in (("name", "shortDescription"), ("names", "shortDescriptions")):
+        ids = [f"{LONG[5:]}{i:05}" for i in range(count // 100)]
+        described = lambda it: {name: it, description: {"text": it[:-1] + "n"}, "helpUri": "https://example.org/"}
+        rules = [{"id": it, **described(it)} for it in ids]
+        results = [message(level="error", ruleIndex=i % len(rules)) for i in range(count)]
+        yield Input([log(run(results, {"rules": rules}))], are_reported=True)
