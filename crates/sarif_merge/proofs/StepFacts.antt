@@ -15,7 +15,7 @@ use Rattle.sarif_model.specs.declared.merge_fault.MergeFault.{MergeFault}
 use Rattle.sarif_model.specs.declared.merge_fault.Source.TheVariants.{Log, Baseline}
 use Rattle.sarif_model.proofs.SourceAnswers.{still_first}
 use Rattle.sarif_entries.specs.File.{File}
-use Rattle.sarif_runs.specs.Judging.{faults_of_runs, run_values, skips}
+use Rattle.sarif_runs.specs.Judging.{faults_of_runs, records_of, run_values, skips}
 use Rattle.sarif_runs.specs.Internal.Opened.{placed_of}
 use Rattle.sarif_runs.specs.Placed.{Placed}
 use Rattle.sarif_runs.specs.declared.opened.OpenedRun.{OpenedRun}
@@ -32,6 +32,7 @@ use Rattle.sarif_inputs.specs.SourceFaults.{source_faults}
 use Rattle.sarif_inputs.specs.declared.sources.Runs.{Runs}
 use Rattle.sarif_inputs.proofs.ReadFacts.{baseline_sides, log_sides}
 use Rattle.sarif_log.specs.Counted.{IsMergedAs}
+use Rattle.sarif_log.specs.LogBy.{expired_of}
 use Rattle.sarif_log.specs.declared.copies.CopyPlace.{CopyPlace}
 use Rattle.serde_json.specs.Data.{Data}
 use Rattle.sarif_prepare.specs.By.{merge_by, IsPreparedBy}
@@ -45,7 +46,7 @@ use Rattle.sarif_upkeep.specs.Internal.IsMatched.{IsFileOf}
 use Rattle.sarif_upkeep.specs.Life.{life_faults}
 use Rattle.sarif_merge.specs.Life.{IsLifeOf, IsRefusal}
 use Rattle.sarif_merge.specs.Merged.{IsMerged}
-use Rattle.sarif_merge.specs.MergedLog.{file_given, file_in}
+use Rattle.sarif_merge.specs.MergedLog.{current_of, file_given, file_in}
 use Rattle.sarif_merge.specs.Internal.Steps.{AreBaselinesJudged, AreBaselinesOpened, AreIndexesIn, AreLogsJudged, AreLogsOpened, AreLogsSound, AreOpened, IsFileIn, IsMergeOf, IsReady, IsRead, IsRejection, checks_in, inputs_in, policy_in}
 use Rattle.sarif_merge.specs.declared.steps.Merging.{Merging}
 use Rattle.sarif_merge.proofs.ReadObjects.{objects_in}
@@ -238,7 +239,7 @@ none_left m file now before read logs baselines =
 pub is_ready : (m : Merging) (bytes : Option (List ℕ)) (file : File) (now before : Judged) (prepared : Prepared) → IsFileIn m file
     → AreLogsJudged m now → AreBaselinesJudged m before
     → bytes ≡ (inputs_in m).suppressions → IsPreparedBy (checks_in m) file (placed_in now) (placed_in before) (reporting_in m.asked.now) prepared
-    → ((rs : List Record) → prepared.expired ≡ expired_of file rs)
+    → prepared.expired ≡ expired_of file (records_of (placed_in now))
     → IsKept (merge_by (checks_in m) file bytes (policy_in m) (placed_in now) (placed_in before)) (upkeep_in m.asked.now) prepared.life → IsReady m prepared
 unfolding IsReady AreLogsJudged AreBaselinesJudged
 is_ready m bytes file now before prepared read logs baselines is ready past kept =
@@ -251,7 +252,7 @@ is_ready m bytes file now before prepared read logs baselines is ready past kept
       written =
           subst (λ f. IsPreparedBy (checks_in m) f xs ys asked prepared) (same_file m file read)
           (same_runs (checks_in m) file (placed_in now) (placed_in before) xs ys asked prepared ready logs.0 baselines.0);
-      expired = past (current_of inputs) ∙ ap (λ f. expired_of f (current_of inputs)) (same_file m file read);
+      expired = past ∙ ap (λ runs. expired_of file (records_of runs)) logs.0 ∙ ap (λ f. expired_of f (current_of inputs)) (same_file m file read);
       kept = subst (λ f. IsKept (merge_by (checks_in m) f inputs.suppressions (policy_in m) xs ys) upkeep prepared.life) (same_file m file read)
           (subst (λ b. IsKept (merge_by (checks_in m) file b (policy_in m) xs ys) upkeep prepared.life) is
           (same_kept (checks_in m) file bytes (policy_in m) (placed_in now) (placed_in before) xs ys upkeep prepared.life kept logs.0 baselines.0));

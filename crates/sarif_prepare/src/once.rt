@@ -1,5 +1,7 @@
 //! Matching results where copies aren't counted: findings alone are matched, and a copy has what its finding has.
-ghost use Rattle.std.specs.Prelude.{false, true, List, IfOk, IfErr};
+ghost use Rattle.std.specs.Prelude.{◌≡◌, false, true, List, IfOk, IfErr};
+ghost use Rattle.sarif_log.specs.LogBy.{expired_of};
+ghost use Rattle.sarif_model.specs.declared.record.Record.{Record as Found};
 ghost use Rattle.sarif_once.specs.Once.{without_copies};
 ghost use Rattle.sarif_prepare.specs.Asked.{reporting_in, upkeep_in};
 ghost use Rattle.sarif_prepare.specs.Internal.Woven.{AreApart};
@@ -77,6 +79,8 @@ fn prepare_split<R: Threads + Sync>(
         → AreApart rules.now.file.now now before split.entry
         → IsPreparedOnce asked.now.options.now.checks.matching rules.now.file.now now before
         (reporting_in asked.now) prepared) }
+    ensures expired { IfOk result
+        (λ prepared. (rs : List Found) → prepared.expired ≡ expired_of rules.now.file.now rs) }
     ensures kept { (now before : List Placed)
         → AreApart rules.now.file.now now before split.entry
         → IfOk result (λ prepared. IsKept (merge_of asked.now.options.now.checks.matching
@@ -117,6 +121,7 @@ fn prepare_split<R: Threads + Sync>(
         side,
         without,
         unused,
+        expired,
         records,
     } = side;
     Ok(Prepared {
@@ -124,6 +129,7 @@ fn prepare_split<R: Threads + Sync>(
         baseline: left.side,
         without,
         unused,
+        expired,
         findings,
         life,
         copies: Some(CopyFlags {
@@ -155,6 +161,8 @@ pub fn prepare_once<R: Threads + Sync>(
     ensures prepared { IfOk result (IsPreparedOnce asked.now.options.now.checks.matching
         rules.now.file.now (placed_in current.entry)
         (placed_in baseline.entry) (reporting_in asked.now)) }
+    ensures expired { IfOk result
+        (λ prepared. (rs : List Found) → prepared.expired ≡ expired_of rules.now.file.now rs) }
     ensures kept { IfOk result (λ prepared. IsKept (merge_of asked.now.options.now.checks.matching
         rules.now.file.now (bytes_of rules.now) asked.now.options.now.policy
         (without_copies (placed_in current.entry)) (without_copies (placed_in baseline.entry)))

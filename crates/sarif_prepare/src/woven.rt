@@ -4,7 +4,7 @@ ghost use Rattle.std.specs.List.{AllByRecursion};
 ghost use Rattle.serde_json.specs.Data.{Data};
 ghost use Rattle.serde_json.specs.View.{members_view};
 ghost use Rattle.sarif_log.specs.Internal.Texts.{IsWholeRun};
-ghost use Rattle.sarif_log.specs.LogBy.{listing_of, runs_without_results};
+ghost use Rattle.sarif_log.specs.LogBy.{expired_of, listing_of, runs_without_results};
 ghost use Rattle.sarif_log.specs.MergedRuns.{bare};
 ghost use Rattle.sarif_model.specs.Limits.{most_runs};
 ghost use Rattle.sarif_model.specs.declared.kinds.State.{State as Stand};
@@ -29,7 +29,7 @@ use crate::left::{Left, absent_states};
 use crate::parts_of_runs::{count_left, run_with};
 use crate::preparing::CurrentSide;
 use crate::run_parts::count_without;
-use crate::unused::count_unused;
+use crate::unused::{count_expired, count_unused};
 use sarif_log::{RunParts, Side};
 use sarif_model::State;
 use sarif_once::{LeftDrafts, spread_marks, spread_states, weave_drafts, weave_left};
@@ -121,6 +121,8 @@ pub(crate) fn weave_logs(
         → length rs ≡ length ds
         → current.entry.drafts.items ≡ drafts_by (listing_of file.now) (applied_of file.now) rs ds
         → made.side.unused ≡ unused_of file.now rs) }
+    ensures expired { IfOk result
+        (λ made. (rs : List Found) → made.side.expired ≡ expired_of file.now rs) }
 {
     let Half {
         runs,
@@ -134,6 +136,7 @@ pub(crate) fn weave_logs(
         drafts: copied,
     } = copies;
     let unused = count_unused(alloc, file, &drafts)?;
+    let expired = count_expired(file);
     let runs = parts_with(alloc, runs, &counts)?;
     let without = count_without(&runs);
     let drafts = weave_drafts(alloc, drafts, copied, &marks)?;
@@ -148,6 +151,7 @@ pub(crate) fn weave_logs(
         side,
         without,
         unused,
+        expired,
         records,
     };
     Ok(CurrentWoven {

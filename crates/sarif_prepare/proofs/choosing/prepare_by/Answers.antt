@@ -3,6 +3,7 @@ use Rattle.std.proofs.lemmas.Result.{IfOk-weaker}
 use Rattle.sarif_prepare.specs.Asked.{reporting_in, upkeep_in}
 use Rattle.sarif_prepare.specs.Kept.{bytes_of, IsKept, IsUnkept}
 use Rattle.sarif_results.specs.Internal.Judged.{placed_in}
+use Rattle.sarif_runs.specs.Judging.{records_of}
 use Rattle.sarif_prepare.proofs.Chosen.{counted_all, counted_once, merge_all, merge_once}
 use Rattle.sarif_prepare.proofs.choosing.prepare_by.Goals as goal
 
@@ -41,3 +42,10 @@ returns-else-asked-clause-unkept g c =
     subst (λ m. IfErr c.prepare.result (IsUnkept m (upkeep_in c.args.asked.now)))
     (merge_all c.args.asked.now.options.now.checks c.args.rules.now.file.now (bytes_of c.args.rules.now) c.args.asked.now.options.now.policy
     (placed_in c.args.current) (placed_in c.args.baseline) c.if-asked.false) c.prepare.ensures.unkept
+
+pub returns-then-asked-clause-expired : goal.returns-then-asked-clause-expired
+returns-then-asked-clause-expired g c =
+    IfOk-weaker c.prepare_once.result _ _ (λ prepared all. all (records_of (placed_in c.args.current))) c.prepare_once.ensures.expired
+
+pub returns-else-asked-clause-expired : goal.returns-else-asked-clause-expired
+returns-else-asked-clause-expired g c = IfOk-weaker c.prepare.result _ _ (λ prepared is. is.expired) c.prepare.ensures.prepared

@@ -15,3 +15,6 @@ pub returns-in_err-prepared-clause-unkept : goal.returns-in_err-prepared-clause-
 returns-in_err-prepared-clause-unkept g c =
     let p = err_from_is_err_and c.from_residual-in_err-prepared.result c.from_residual-in_err-prepared.ensures.1 in
     rw (p.1, p.2) (c.in_err-prepared.ensures.unkept (placed_in c.args.current) (placed_in c.args.baseline) c.in_ok-split.ensures)
+
+pub returns-clause-expired : goal.returns-clause-expired
+returns-clause-expired g c = c.in_ok-prepared.ensures.expired

@@ -94,3 +94,6 @@ pub returns-in_err-paired-clause-unkept : goal.returns-in_err-paired-clause-unke
 returns-in_err-paired-clause-unkept g c = λ now before h.
     let p = err_from_is_err_and c.from_residual.result c.from_residual.ensures.1 in
     rw (p.1, p.2) (c.in_err-paired.ensures.unkept (without_copies now) (without_copies before) h.together)
+
+pub returns-clause-expired : goal.returns-clause-expired
+returns-clause-expired g c = c.in_ok-side.ensures.expired
