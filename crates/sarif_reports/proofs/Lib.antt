@@ -1,5 +1,6 @@
 pub mod AddressRows
 pub mod ArrayRead
+pub mod AttributesApart
 pub mod CasesMore
 pub mod GitlabMore
 pub mod HashedApart
@@ -11,3 +12,4 @@ pub mod RowsApart
 pub mod SuitesMore
 pub mod TableRows
 pub mod Tabled
+pub mod TagsApart

@@ -1,5 +1,5 @@
 -- The length of the report in Markdown.
-use Rattle.std.proofs.Common.{◌==◌, ◌<◌, ◌≤◌, ◌+◌, ◌^◌, ◌++◌, ℕ, Bool, true, false, List, [], ◌∷◌, Option, codes, decimal, flat_map, length, length-append, append_assoc, if◌then◌else◌, subst, sym, ◌∙◌, arith}
+use Rattle.std.proofs.Common.{◌==◌, ◌<◌, ◌≤◌, ◌+◌, ◌^◌, ◌++◌, ℕ, Bool, true, false, List, [], ◌∷◌, Option, codes, decimal, flat_map, length, length-append, if◌then◌else◌, arith}
 use Rattle.std.proofs.lemmas.Fmt.{length-decimal-le}
 use Rattle.sarif_model.specs.declared.kinds.Level.{Level}
 use Rattle.sarif_model.specs.declared.kinds.State.{State}
@@ -212,23 +212,6 @@ report_few facts small =
     (two 60210 191 (results_table facts.link facts.findings) ends (results_by (length facts.findings == 0) facts.link facts.findings small.findings)
     (last_few unshown hits (all_unshown facts.show facts.count facts.policy small.counts))))) in
     omega (arith, whole)
-
--- the length of the same parts, joined in order
-pub parts_few : (facts : Facts) → AreSmall facts
-    → length
-    ((((heading (verdict_of facts.count facts.policy) (hits_of facts.count facts.policy) facts.policy.max ++ counts_table facts.count)
-    ++ paragraph (notes facts.without facts.unused)) ++ results_table facts.link facts.findings)
-    ++ last_lines (unshown_number facts.show facts.count facts.policy) (hits_of facts.count facts.policy)) ≤ 61000
-parts_few facts small =
-    let first = heading (verdict_of facts.count facts.policy) (hits_of facts.count facts.policy) facts.policy.max in
-    let second = counts_table facts.count in
-    let third = paragraph (notes facts.without facts.unused) in
-    let fourth = results_table facts.link facts.findings in
-    let last = last_lines (unshown_number facts.show facts.count facts.policy) (hits_of facts.count facts.policy) in
-    subst (λ bytes. length bytes ≤ 61000)
-    (sym (append_assoc ((first ++ second) ++ third) fourth last ∙ append_assoc (first ++ second) third (fourth ++ last)
-    ∙ append_assoc first second (third ++ (fourth ++ last))))
-    (report_few facts small)
 
 -- ---- the counts of a merge have 32 bits
 

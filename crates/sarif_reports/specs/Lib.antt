@@ -6,4 +6,5 @@ pub mod JunitReport
 pub mod LaterOutputs
 pub mod MarkdownLaws
 pub mod MarkdownReport
+pub mod MarkdownTags
 pub mod Report

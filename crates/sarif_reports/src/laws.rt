@@ -21,7 +21,9 @@ ghost use Rattle.sarif_findings.specs.declared.reporting.Reporting.{Reporting};
 ghost use Rattle.sarif_reports.specs.JunitLaws.{IsXmlText, cases_of, document_of, fails, names_after, occurrences};
 ghost use Rattle.sarif_reports.specs.MarkdownLaws.{AreLinks, AreSmall, have_bars};
 ghost use Rattle.sarif_reports.specs.MarkdownReport.{in_table, left_out, markdown_of, result_row};
-ghost use Rattle.sarif_reports.specs.MarkdownReport.{row_text};
+ghost use Rattle.sarif_reports.specs.MarkdownReport.{Row, row_text};
+ghost use Rattle.sarif_page.specs.HtmlAttributes.{attributes_in};
+ghost use Rattle.sarif_reports.specs.MarkdownTags.{has_row_marks, row_attributes, row_tags, tags_of};
 ghost use Rattle.sarif_findings.specs.Reported.{reported_of};
 
 /// Each mark of a string in Markdown is part of a `&#N;`: no string makes a cell, a link, emphasis or a tag.
@@ -46,6 +48,18 @@ pub fn markdown_rows_have_their_cells()
         → count_by (λ b. b == 10)
         (flat_map (row_text link) (in_table link (reported_of reporting log)))
         ≡ length (in_table link (reported_of reporting log)) }
+{}
+
+/// In Markdown a reader of one row or more finds only the tags and attributes that are stated for them, for any strings
+/// of their results and any template of links: code, a line break before a line of code, and links to the address of a
+/// place or to the page of a rule, with its name as the title. Outside of tags each mark is a bar or part of a `&#N;`.
+pub fn markdown_rows_have_their_tags()
+    ensures tags { (link : Option (List ℕ)) (rows : List Row) →
+        tags_of (flat_map (row_text link) rows) ≡ flat_map (row_tags link) rows }
+    ensures attributes { (link : Option (List ℕ)) (rows : List Row) →
+        attributes_in (flat_map (row_text link) rows) ≡ flat_map (row_attributes link) rows }
+    ensures marks { (link : Option (List ℕ)) (rows : List Row) →
+        has_row_marks (flat_map (row_text link) rows) ≡ true }
 {}
 
 /// In Markdown each reported result has a row or is counted in the line on those that have none, and so has each hit.
