@@ -1,5 +1,9 @@
+pub mod AnyOrder
 pub mod ByTool
+pub mod Done
+pub mod FirstTier
 pub mod Keyed
+pub mod LastTier
 pub mod SameTiers
 pub mod Shifted
 pub mod TwoTools

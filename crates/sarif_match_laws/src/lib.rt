@@ -3,4 +3,7 @@
 
 mod laws;
 
-pub use laws::tools_are_matched_apart;
+pub use laws::{
+    matches_without_evidence_are_updated, the_same_results_are_unchanged_in_any_order,
+    tools_are_matched_apart,
+};
