@@ -2,7 +2,7 @@
 entries, and the known log. It follows the rules sentence by sentence and shares no code with the program."""
 
 from reference_json import compact, quoted, read_json, stripped
-from reference_matching import fields, telling
+from reference_matching import telling
 from reference_reports import shown
 
 MOST_ENTRIES = 10_000
@@ -212,9 +212,6 @@ class Known:
         gone = {id(it) for it in merge.current if left_out(merge, it, adopt)}
         stay = [it for it in merge.current if id(it) not in gone]
         kept = [it for it in merge.absent if not heard(merge, tool_of(it.run))]
-        if merge.checks.once:
-            known = {fields(it.record) for it in stay} - {None}
-            kept = [it for it in kept if fields(it.record) not in known]
         tools = dict.fromkeys(map(tool_of, [*merge.before, *merge.inputs]))
         runs = []
         for tool in tools:
