@@ -1,4 +1,4 @@
--- The parts of runs without their copies are those of the runs, but for the numbers of their results.
+-- The parts of runs without their copies are those of the runs, except for the numbers of their results.
 use Rattle.std.proofs.Common.{◌≡◌, ◌+◌, ℕ, suc, Bool, List, [], ◌∷◌, map, take, drop, length, Option, Some, codes, refl, sym, ap, ap₂, ◌∙◌}
 use Rattle.std.proofs.lemmas.List.{length-append}
 use Rattle.json_parts.specs.Without.{without}
