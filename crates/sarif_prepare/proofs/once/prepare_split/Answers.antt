@@ -1,10 +1,10 @@
-use Rattle.std.proofs.Common.{◌≡◌, length, map, sym, ap, ◌∙◌, subst, arith}
+use Rattle.std.proofs.Common.{length, map, sym, ap, ◌∙◌, subst, arith}
 use Rattle.std.proofs.lemmas.Result.{err_from_is_err_and}
 use Rattle.std.specs.List.{flat_map}
 use Rattle.sarif_model.specs.Run.{results_of}
 use Rattle.sarif_runs.specs.Judging.{records_of, run_values}
 use Rattle.sarif_once.specs.Once.{without_copies}
-use Rattle.sarif_log.specs.LogBy.{states_of, taken_of}
+use Rattle.sarif_log.specs.LogBy.{states_of}
 use Rattle.sarif_log.proofs.Sides.{results_long, taken_long}
 use Rattle.sarif_prepare.specs.Asked.{upkeep_in}
 use Rattle.sarif_prepare.specs.Kept.{bytes_of, merge_of, IsKept}

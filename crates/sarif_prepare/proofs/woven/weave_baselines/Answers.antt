@@ -1,4 +1,4 @@
-use Rattle.std.proofs.Common.{◌≡◌, false, List, Some, length, map, sym, ap, ap₂, ◌∙◌}
+use Rattle.std.proofs.Common.{false, List, Some, length, map, sym, ap, ap₂, ◌∙◌}
 use Rattle.std.proofs.lemmas.List.{length-map}
 use Rattle.sarif_copies.specs.Copies.{copies_of, numbers_of, spread}
 use Rattle.sarif_once.specs.Once.{copy_marks, marked, without_copies}
