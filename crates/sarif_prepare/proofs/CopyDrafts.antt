@@ -1,5 +1,5 @@
 -- The drafts of findings and of copies are those of all results.
-use Rattle.std.proofs.Common.{◌≡◌, ◌≤◌, ◌+◌, suc, Bool, true, false, List, [], ◌∷◌, ◌++◌, map, length, Option, Some, None, refl, sym, ap, subst, ◌∙◌, arith}
+use Rattle.std.proofs.Common.{◌≡◌, ◌≤◌, ◌+◌, suc, Bool, true, false, List, [], ◌∷◌, ◌++◌, map, length, Option, Some, None, refl, sym, ap, ◌∙◌, arith}
 use Rattle.std.proofs.lemmas.List.{length-map, map-append}
 use Rattle.std.specs.List.{AllByRecursion, flat_map}
 use Rattle.serde_json.specs.Data.{Data}
@@ -30,12 +30,11 @@ use Rattle.sarif_runs.specs.declared.spots.Spot.{Spot}
 use Rattle.sarif_runs.specs.Internal.Spots.{spots_from}
 use Rattle.sarif_runs.specs.Judging.{faults_of_runs, items_of, records_in, records_of, run_values, skips}
 use Rattle.sarif_runs.specs.Placed.{Placed}
-use Rattle.sarif_runs.specs.Unmarked.{placed_without, runs_without}
 use Rattle.sarif_prepare.specs.Internal.Apart.{copy_draft, copy_drafts, current_drafts}
-use Rattle.sarif_prepare.specs.Internal.Baselines.{baseline_drafts, with_spot, spots_with_record}
+use Rattle.sarif_prepare.specs.Internal.Baselines.{baseline_drafts, spots_with_record}
 use Rattle.sarif_prepare.specs.Internal.Halves.{drafts_in, with_draft}
 use Rattle.sarif_prepare.specs.Internal.Leftover.{found_at}
-use Rattle.sarif_prepare.specs.Internal.Telling.{own_results, pair_at}
+use Rattle.sarif_prepare.specs.Internal.Telling.{own_results}
 use Rattle.sarif_prepare.proofs.BaselineSpots.{all_long, found_at_pairs, pairs_at_spots, results_at, results_with}
 use Rattle.sarif_prepare.proofs.FoundDrafts.{current_drafts as drafts_found}
 use Rattle.sarif_prepare.proofs.ToldRuns.{pairs_of_all}

@@ -1,5 +1,5 @@
 -- The places of copies are those in the runs that are written, and copies aren't counted.
-use Rattle.std.proofs.Common.{◌≡◌, ◌+◌, ℕ, suc, Bool, true, false, List, [], ◌∷◌, ◌++◌, map, take, drop, length, Option, Some, None, unwrap_or, refl, sym, ap, ap₂, ◌∙◌, arith}
+use Rattle.std.proofs.Common.{◌≡◌, ◌+◌, Bool, true, false, List, [], ◌∷◌, ◌++◌, take, drop, length, Option, unwrap_or, refl, sym, ap, ap₂, ◌∙◌, arith}
 use Rattle.std.proofs.Math.Seq.{take-append_seam, drop-append_seam}
 use Rattle.std.proofs.lemmas.List.{length-append, length-drop, length-take-le}
 use Rattle.serde_json.specs.Data.{Data}
@@ -13,7 +13,7 @@ use Rattle.sarif_log.specs.declared.run_parts.RunParts.{RunParts}
 use Rattle.sarif_log.proofs.RunTexts.{run_count}
 use Rattle.sarif_read.specs.Unmarked.{unmarked}
 use Rattle.sarif_results.specs.declared.draft.Draft.{Draft}
-use Rattle.sarif_prepare.specs.Internal.LeftParts.{left_count, AreLeftParts}
+use Rattle.sarif_prepare.specs.Internal.LeftParts.{AreLeftParts}
 use Rattle.sarif_prepare.specs.Internal.Leftover.{not_taken}
 use Rattle.sarif_prepare.specs.Once.{marks_of_absent, marks_of_runs}
 use Rattle.sarif_prepare.proofs.LeftTexts.{long, seam}

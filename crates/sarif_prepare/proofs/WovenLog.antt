@@ -1,5 +1,5 @@
 -- The log of findings and their copies.
-use Rattle.std.proofs.Common.{◌≡◌, ◌≤◌, ◌+◌, ◌++◌, Bool, false, true, List, Some, map, length, refl, sym, ap, ap₂, ◌∙◌, arith}
+use Rattle.std.proofs.Common.{◌≡◌, ◌≤◌, ◌+◌, ◌++◌, Bool, false, true, List, Option, Some, map, length, refl, sym, ap, ap₂, ◌∙◌, subst, arith}
 use Rattle.std.proofs.lemmas.List.{map-append, length-map}
 use Rattle.std.specs.List.{flat_map}
 use Rattle.serde_json.specs.Written.{compact_text}
@@ -7,15 +7,18 @@ use Rattle.sarif_copies.specs.Copies.{copies_of, numbers_of, spread}
 use Rattle.sarif_counts.specs.CountOf.{count_of}
 use Rattle.sarif_counts.proofs.CountAppend.{count_of-append}
 use Rattle.sarif_entries.specs.File.{File}
+use Rattle.sarif_findings.specs.declared.reporting.Reporting.{Reporting}
 use Rattle.sarif_log.specs.Copies.{places_from}
 use Rattle.sarif_log.specs.Internal.Copied.{marks_of_left, masked, places_by}
 use Rattle.sarif_log.specs.Internal.Side.{IsSide}
 use Rattle.sarif_log.specs.Internal.Texts.{left_texts, own_count, present_results, runs_texts, tallied}
 use Rattle.sarif_log.specs.Internal.Written.{AreWrittenWith}
-use Rattle.sarif_log.specs.LogBy.{current_runs, leftover_runs, listing_of, states_of, taken_of}
+use Rattle.sarif_log.specs.LogBy.{current_runs, leftover_runs, listing_of, runs_without_results, states_of, taken_of}
 use Rattle.sarif_log.specs.MergedRuns.{absent_runs, merged_runs}
 use Rattle.sarif_log.specs.declared.merged_text.Side.{Side}
+use Rattle.sarif_log.specs.Told.{told_of}
 use Rattle.sarif_log.specs.declared.prepared.CopyFlags.{CopyFlags}
+use Rattle.sarif_log.specs.declared.prepared.Prepared.{Prepared}
 use Rattle.sarif_log.proofs.RunCounts.{left_count as left_counted, runs_count}
 use Rattle.sarif_log.proofs.RunTexts.{runs_written}
 use Rattle.sarif_log.proofs.Sides.{drafts_long, few_present, own_total, records_present, results_long, runs_long, states_long, taken_long}
@@ -41,11 +44,14 @@ use Rattle.sarif_prepare.specs.Internal.Apart.{current_drafts}
 use Rattle.sarif_prepare.specs.Internal.Baselines.{baseline_drafts}
 use Rattle.sarif_prepare.specs.Internal.Leftover.{not_taken}
 use Rattle.sarif_prepare.specs.Internal.Together.{AreTogether, IsPaired}
-use Rattle.sarif_prepare.specs.Internal.Woven.{AreCurrentWoven, AreLeftWoven, AreWhole}
-use Rattle.sarif_prepare.specs.Once.{copies_written, current_once, findings_only, leftover_once, marks_of_absent, marks_of_runs, runs_counted, runs_once}
+use Rattle.sarif_suppress.specs.Suppressing.{unused_of}
+use Rattle.sarif_prepare.specs.Internal.Woven.{flags_of, AreCurrentWoven, AreLeftWoven, AreWhole}
+use Rattle.sarif_prepare.specs.Once.{copies_written, current_once, findings_only, leftover_once, marks_of_absent, marks_of_runs, runs_counted, runs_once, IsPreparedOnce}
 use Rattle.sarif_prepare.specs.declared.baselines.Baselines.{Baselines}
 use Rattle.sarif_prepare.specs.declared.halves.Half.{Half}
 use Rattle.sarif_prepare.specs.declared.preparing.Paired.{Paired}
+use Rattle.sarif_prepare.specs.declared.woven.CurrentWoven.{CurrentWoven}
+use Rattle.sarif_prepare.specs.declared.woven.LeftWoven.{LeftWoven}
 use Rattle.sarif_prepare.proofs.CopyDrafts.{found_before, found_drafts}
 use Rattle.sarif_prepare.proofs.CopyPlaces.{counted_found, places_before, places_now}
 use Rattle.sarif_prepare.proofs.LeftTexts.{counts, left_total, left_written, long}
@@ -219,7 +225,7 @@ module _ (v : MatchingVersion) (file : File) (now before : List Placed) (c : Hal
       ≡ taken_of v (findings_only (records_of now)) (findings_only (records_of before))
   taken_same = ap₂ (taken_of v) (findings_left now) (findings_left before)
 
-  -- what matching says of the findings
+  -- what matching gives the findings
   pub states_given : (paired : Paired) → IsPaired v c b paired
       → paired.states.items ≡ map Some (states_of v (records_of (without_copies now)) (records_of (without_copies before)))
   states_given paired q = q.states ∙ ap₂ (λ rs qs. map Some (states_of v rs qs)) t.is_current.records t.are_baselines.records
@@ -274,3 +280,28 @@ module _ (v : MatchingVersion) (file : File) (now before : List Placed) (c : Hal
       let runs : length side.runs.items ≡ length now =
       runs_long own_count side.runs.items (run_values now) here.parts ∙ length-map now (λ p. p.run) in
       ap₂ (λ a z. Some (a ++ z)) (ap (places_from 0) first) (ap₂ places_from runs rest)
+
+  -- everything that is written, put together
+  pub woven_prepared : (logs : CurrentWoven) (other : LeftWoven) (made : Prepared) (asked : Option Reporting)
+      → AreCurrentWoven file (states_of v (records_of (without_copies now)) (records_of (without_copies before))) now logs.copies.items logs.side.side
+      → AreLeftWoven (taken_of v (records_of (without_copies now)) (records_of (without_copies before))) before other.copies.items other.left.side
+      → made.current ≡ logs.side.side → made.baseline ≡ other.left.side → made.copies ≡ Some (flags_of logs.copies other.copies)
+      → made.without ≡ runs_without_results (run_values now) → made.unused ≡ unused_of file (records_of (without_copies now))
+      → made.findings.items ≡ told_of asked (runs_counted v file now before) → IsPreparedOnce v file now before asked made
+  woven_prepared logs other made asked here there current baseline copies without unused told =
+      let flags = flags_of logs.copies other.copies in
+      let side = logs.side.side in
+      let left = other.left.side in
+      let all = runs_once v file now before in
+      let counted = runs_counted v file now before in record {
+        written =
+            subst (λ cs. AreWrittenWith cs made.current made.baseline all counted) (sym copies)
+            (subst (λ s. AreWrittenWith (Some flags) s made.baseline all counted) (sym current)
+            (subst (λ s. AreWrittenWith (Some flags) side s all counted) (sym baseline) (woven_written flags side left here there)));
+        named =
+            ap (λ cs. places_by cs made.current made.baseline) copies ∙ ap₂ (places_by (Some flags)) current baseline
+            ∙ woven_places flags side left here there;
+        without = without;
+        unused = unused;
+        told = told;
+      }

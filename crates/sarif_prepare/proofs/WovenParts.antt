@@ -1,8 +1,8 @@
--- The parts of runs without their copies are those of the runs, but for the numbers of their results.
-use Rattle.std.proofs.Common.{◌≡◌, ◌+◌, ℕ, suc, Bool, List, [], ◌∷◌, map, take, drop, length, Option, Some, codes, refl, sym, ap, ap₂, ◌∙◌}
+-- The parts of runs without their copies are those of the runs, except for the numbers of their results.
+use Rattle.std.proofs.Common.{◌≡◌, ◌+◌, ℕ, suc, Bool, List, [], ◌∷◌, map, take, drop, length, codes, refl, sym, ap, ap₂, ◌∙◌}
 use Rattle.std.proofs.lemmas.List.{length-append}
 use Rattle.json_parts.specs.Without.{without}
-use Rattle.serde_json.specs.Data.{Data, Members}
+use Rattle.serde_json.specs.Data.{Data}
 use Rattle.serde_json.specs.View.{members_view}
 use Rattle.sarif_log.specs.Internal.Texts.{own_count, present_results, ArePartsOf}
 use Rattle.sarif_log.specs.MergedRuns.{bare}

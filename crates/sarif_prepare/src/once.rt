@@ -1,10 +1,10 @@
 //! Matching results where copies aren't counted: findings alone are matched, and a copy has what its finding has.
-ghost use Rattle.std.specs.Prelude.{◌≡◌, false, true, List, IfOk, IfErr};
+ghost use Rattle.std.specs.Prelude.{◌≡◌, false, true, List, Some, IfOk, IfErr};
 ghost use Rattle.sarif_log.specs.LogBy.{expired_of};
-ghost use Rattle.sarif_model.specs.declared.record.Record.{Record as Found};
+ghost use Rattle.sarif_model.specs.declared.record.Record.{Record};
 ghost use Rattle.sarif_once.specs.Once.{without_copies};
 ghost use Rattle.sarif_prepare.specs.Asked.{reporting_in, upkeep_in};
-ghost use Rattle.sarif_prepare.specs.Internal.Woven.{AreApart};
+ghost use Rattle.sarif_prepare.specs.Internal.Woven.{flags_of, AreApart, AreWoven};
 ghost use Rattle.sarif_prepare.specs.Kept.{bytes_of, merge_of, IsKept, IsUnkept};
 ghost use Rattle.sarif_prepare.specs.Once.{IsPreparedOnce};
 ghost use Rattle.sarif_results.specs.Internal.Judged.{placed_in, IsJudged};
@@ -20,6 +20,8 @@ use crate::file_read::FileRead;
 use crate::halves::{Half, current_half};
 use crate::preparing::{CurrentSide, Paired, ReportedSides, tell_sides};
 use crate::woven::{CurrentWoven, LeftWoven, weave_baselines, weave_logs};
+use sarif_counts::Life;
+use sarif_findings::Finding;
 use sarif_log::{CopyFlags, Prepared, Spent};
 use sarif_model::MergeFault;
 use sarif_results::Judged;
@@ -64,6 +66,54 @@ fn split_sides<'t, 'a, R: Threads + Sync>(
     })
 }
 
+/// What is written of both sides, with what is reported and what is for later merges.
+fn put_together(
+    logs: CurrentWoven,
+    baselines: LeftWoven,
+    findings: Vec<Finding>,
+    life: Life,
+) -> Prepared
+    requires { AreWoven logs baselines }
+    ensures current { result.current ≡ logs.side.side }
+    ensures baseline { result.baseline ≡ baselines.left.side }
+    ensures copies { result.copies ≡ Some (flags_of logs.copies baselines.copies) }
+    ensures without { result.without ≡ logs.side.without }
+    ensures unused { result.unused ≡ logs.side.unused }
+    ensures expired { result.expired ≡ logs.side.expired }
+    ensures findings { result.findings ≡ findings }
+    ensures life { result.life ≡ life }
+{
+    let CurrentWoven { side, copies } = logs;
+    let LeftWoven {
+        left,
+        copies: marks,
+    } = baselines;
+    let CurrentSide {
+        side,
+        without,
+        unused,
+        expired,
+        records,
+    } = side;
+    Prepared {
+        current: side,
+        baseline: left.side,
+        without,
+        unused,
+        expired,
+        findings,
+        life,
+        copies: Some(CopyFlags {
+            current: copies,
+            baseline: marks,
+        }),
+        spent: Spent {
+            current: records,
+            baseline: left.records,
+        },
+    }
+}
+
 /// Matches the findings of logs with those of baselines, and takes out of all results what is written, and of the
 /// findings what is reported and what is for later merges.
 fn prepare_split<R: Threads + Sync>(
@@ -80,7 +130,7 @@ fn prepare_split<R: Threads + Sync>(
         → IsPreparedOnce asked.now.options.now.checks.matching rules.now.file.now now before
         (reporting_in asked.now) prepared) }
     ensures expired { IfOk result
-        (λ prepared. (rs : List Found) → prepared.expired ≡ expired_of rules.now.file.now rs) }
+        (λ prepared. (rs : List Record) → prepared.expired ≡ expired_of rules.now.file.now rs) }
     ensures kept { (now before : List Placed)
         → AreApart rules.now.file.now now before split.entry
         → IfOk result (λ prepared. IsKept (merge_of asked.now.options.now.checks.matching
@@ -109,38 +159,9 @@ fn prepare_split<R: Threads + Sync>(
         left,
         ..
     } = paired;
-    let LeftWoven {
-        left,
-        copies: baseline_flags,
-    } = weave_baselines(alloc, baselines, baseline_copies, &taken, left)?;
-    let CurrentWoven {
-        side,
-        copies: current_flags,
-    } = weave_logs(alloc, current, current_copies, &states, rules.file)?;
-    let CurrentSide {
-        side,
-        without,
-        unused,
-        expired,
-        records,
-    } = side;
-    Ok(Prepared {
-        current: side,
-        baseline: left.side,
-        without,
-        unused,
-        expired,
-        findings,
-        life,
-        copies: Some(CopyFlags {
-            current: current_flags,
-            baseline: baseline_flags,
-        }),
-        spent: Spent {
-            current: records,
-            baseline: left.records,
-        },
-    })
+    let there = weave_baselines(alloc, baselines, baseline_copies, &taken, left)?;
+    let here = weave_logs(alloc, current, current_copies, &states, rules.file)?;
+    Ok(put_together(here, there, findings, life))
 }
 
 /// Returns what [`prepare`](crate::prepare) returns, if copies aren't counted. A copy is a result of logs, or of
@@ -161,8 +182,6 @@ pub fn prepare_once<R: Threads + Sync>(
     ensures prepared { IfOk result (IsPreparedOnce asked.now.options.now.checks.matching
         rules.now.file.now (placed_in current.entry)
         (placed_in baseline.entry) (reporting_in asked.now)) }
-    ensures expired { IfOk result
-        (λ prepared. (rs : List Found) → prepared.expired ≡ expired_of rules.now.file.now rs) }
     ensures kept { IfOk result (λ prepared. IsKept (merge_of asked.now.options.now.checks.matching
         rules.now.file.now (bytes_of rules.now) asked.now.options.now.policy
         (without_copies (placed_in current.entry)) (without_copies (placed_in baseline.entry)))

@@ -1,4 +1,4 @@
-//! Findings and copies in one list again, with what matching says of the findings.
+//! Findings and copies in one list again, with what matching gives the findings.
 ghost use Rattle.std.specs.Prelude.{◌≡◌, ◌≤◌, length, map, slice_index_or, List, None, Some, IfOk};
 ghost use Rattle.std.specs.List.{AllByRecursion};
 ghost use Rattle.serde_json.specs.Data.{Data};
@@ -71,7 +71,7 @@ fn parts_with(
     Ok(all)
 }
 
-/// For each run how many of its results aren't taken.
+/// For each run how many of its results aren't matched. `counts` says how many each has.
 fn list_left(
     alloc: Global,
     counts: &[u32],

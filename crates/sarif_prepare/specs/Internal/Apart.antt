@@ -86,7 +86,7 @@ abbrev pub total : List ℕ → ℕ
 total [] = 0
 total (n ∷ counts) = n + total counts
 
--- for each run how many of its results aren't taken; each of these runs has that many
+-- for each run how many of its results aren't matched; the first list says how many each has
 abbrev pub left_counts : List ℕ → List Bool → List (Option ℕ)
 left_counts [] taken = []
 left_counts (n ∷ counts) taken =

@@ -1,10 +1,14 @@
 -- Findings and copies in one list again, as they are written.
-use Rattle.std.specs.Prelude.{◌≡◌, ◌≤◌, Bool, false, true, List, [], Some, map, length}
+use Rattle.std.specs.Prelude.{◌≡◌, ◌≤◌, ◌+◌, ◌*◌, Bool, false, true, List, [], Some, map, length}
 use Rattle.std.specs.List.{AllByRecursion}
 use Rattle.sarif_copies.specs.Copies.{copies_of, numbers_of, spread}
 use Rattle.sarif_entries.specs.File.{File}
+use Rattle.std.specs.declared.alloc.Global.{Global}
+use Rattle.std.specs.declared.vec.Vec.{Vec}
+use Rattle.sarif_log.specs.Internal.Side.{IsSide}
 use Rattle.sarif_log.specs.Internal.Texts.{own_count, present_results, ArePartsOf, IsWholeRun}
 use Rattle.sarif_log.specs.declared.merged_text.Side.{Side}
+use Rattle.sarif_log.specs.declared.prepared.CopyFlags.{CopyFlags}
 use Rattle.sarif_model.specs.Limits.{most_results, most_runs}
 use Rattle.sarif_model.specs.Run.{results_total}
 use Rattle.sarif_model.specs.declared.kinds.State.{State}
@@ -14,6 +18,8 @@ use Rattle.sarif_prepare.specs.Internal.Apart.{current_drafts, AreBaselineCopies
 use Rattle.sarif_prepare.specs.Internal.Baselines.{IsLeft}
 use Rattle.sarif_prepare.specs.Internal.Together.{AreTogether}
 use Rattle.sarif_prepare.specs.declared.once.SplitSides.{SplitSides}
+use Rattle.sarif_prepare.specs.declared.woven.CurrentWoven.{CurrentWoven}
+use Rattle.sarif_prepare.specs.declared.woven.LeftWoven.{LeftWoven}
 use Rattle.sarif_read.specs.Unmarked.{unmarked}
 use Rattle.sarif_results.specs.Drafts.{IsRun}
 use Rattle.sarif_runs.specs.Judging.{faults_of_runs, records_of, run_values, skips}
@@ -58,3 +64,19 @@ pub record AreLeftWoven (taken : List Bool) (runs : List Placed) (marks : List B
   pub left : IsLeft runs (spread false (numbers_of (records_of runs)) taken) side
   pub copies : marks
       ≡ unmarked (spread false (numbers_of (records_of runs)) taken) (copies_of (records_of runs))
+
+-- ---- both sides together
+
+-- which results of logs and of baselines are copies
+abbrev pub flags_of : Vec Bool Global → Vec Bool Global → CopyFlags
+flags_of current baseline = record { current = current; baseline = baseline }
+
+-- what is written of both sides has a draft, a state and a mark for each result, and not too many
+pub record AreWoven (logs : CurrentWoven) (baselines : LeftWoven) : Type 0 where
+  pub current_is : IsSide logs.side.side
+  pub baseline_is : IsSide baselines.left.side
+  pub few : length logs.side.side.drafts.items + length baselines.left.side.drafts.items
+      ≤ 2 * most_results
+  pub flags_of_current : length logs.copies.items ≡ length logs.side.side.drafts.items
+  pub flags_of_baseline : length baselines.copies.items
+      ≡ length baselines.left.side.drafts.items

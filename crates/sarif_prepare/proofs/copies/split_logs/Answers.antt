@@ -1,4 +1,4 @@
-use Rattle.std.proofs.Common.{false, map, length, sym, ap, ◌∙◌}
+use Rattle.std.proofs.Common.{false, map, length, ap, ◌∙◌}
 use Rattle.sarif_results.specs.Internal.Judged.{placed_in}
 use Rattle.sarif_runs.specs.Internal.Opened.{placed_of}
 use Rattle.sarif_runs.specs.Unmarked.{runs_without}

@@ -1,16 +1,17 @@
-use Rattle.std.proofs.Common.{◌≡◌, length, Some, map, refl, sym, ap, ap₂, ◌∙◌, subst, arith}
+use Rattle.std.proofs.Common.{length, map, sym, ap, ◌∙◌, subst, arith}
 use Rattle.std.proofs.lemmas.Result.{err_from_is_err_and}
 use Rattle.std.specs.List.{flat_map}
 use Rattle.sarif_model.specs.Run.{results_of}
 use Rattle.sarif_runs.specs.Judging.{records_of, run_values}
 use Rattle.sarif_once.specs.Once.{without_copies}
-use Rattle.sarif_log.specs.LogBy.{states_of, taken_of}
-use Rattle.sarif_log.specs.declared.prepared.CopyFlags.{CopyFlags}
+use Rattle.sarif_log.specs.LogBy.{states_of}
 use Rattle.sarif_log.proofs.Sides.{results_long, taken_long}
+use Rattle.sarif_prepare.specs.Asked.{upkeep_in}
+use Rattle.sarif_prepare.specs.Kept.{bytes_of, merge_of, IsKept}
 use Rattle.sarif_prepare.specs.Internal.Baselines.{baseline_drafts}
 use Rattle.sarif_prepare.specs.Internal.Leftover.{not_taken}
-use Rattle.sarif_prepare.specs.Internal.Woven.{AreCurrentWoven, AreLeftWoven}
-use Rattle.sarif_prepare.proofs.WovenLog.{before_few, before_flags, before_is_side, now_few, now_flags, now_is_side, states_given, taken_given, woven_places, woven_written}
+use Rattle.sarif_prepare.specs.Internal.Woven.{AreLeftWoven}
+use Rattle.sarif_prepare.proofs.WovenLog.{before_few, before_flags, before_is_side, now_few, now_flags, now_is_side, states_given, taken_given, woven_prepared}
 use Rattle.sarif_prepare.proofs.once.prepare_split.Goals as goal
 
 pub tell_sides-requires-clause-together : goal.tell_sides-requires-clause-together
@@ -25,8 +26,8 @@ pub weave_logs-requires : goal.weave_logs-requires
 weave_logs-requires g c =
     (c.requires.apart.0, c.requires.apart.2.together.is_current, c.requires.apart.2.current_copies, c.requires.apart.2.whole.few_runs)
 
-pub invariant_of-result : goal.invariant_of-result
-invariant_of-result g c =
+pub put_together-requires : goal.put_together-requires
+put_together-requires g c =
     let file = c.args.rules.now.file.now in
     let now = c.requires.apart.0 in
     let before = c.requires.apart.1 in
@@ -40,19 +41,17 @@ invariant_of-result g c =
     q.left (without_copies before) h.together.are_baselines
     ∙ ap (λ ts. not_taken ts (baseline_drafts (without_copies before))) (sym c.deref.ensures.value) in
     let long = ap length taken ∙ taken_long v (records_of (without_copies now)) (records_of (without_copies before)) in
-    let here = c.in_ok-side.ensures.woven xs now before states h.whole h.together.is_current h.current_copies in
-    let there = c.in_ok-left.ensures now before h.whole h.together.are_baselines h.baseline_copies long left in
-    let side = c.in_ok-side.field-0.side.side in
-    let other = c.in_ok-left.field-0.left.side in
-    let marks = c.in_ok-side.field-0.copies.items in
-    let flags = c.in_ok-left.field-0.copies.items in
-    let few = now_few file now before h.whole xs marks side here in
-    let few_left = before_few now before h.whole c.deref.result.now flags other there in record {
-      current_is = now_is_side file now before h.whole xs marks side here;
-      baseline_is = before_is_side now before h.whole c.deref.result.now flags other there;
+    let logs = c.in_ok-here.here in
+    let baselines = c.in_ok-there.there in
+    let here = c.in_ok-here.ensures.woven xs now before states h.whole h.together.is_current h.current_copies in
+    let there = c.in_ok-there.ensures now before h.whole h.together.are_baselines h.baseline_copies long left in
+    let few = now_few file now before h.whole xs logs.copies.items logs.side.side here in
+    let few_left = before_few now before h.whole c.deref.result.now baselines.copies.items baselines.left.side there in record {
+      current_is = now_is_side file now before h.whole xs logs.copies.items logs.side.side here;
+      baseline_is = before_is_side now before h.whole c.deref.result.now baselines.copies.items baselines.left.side there;
       few = omega (arith, few, few_left);
-      flags_of_current = ap Some (now_flags file now before h.whole xs marks side here);
-      flags_of_baseline = ap Some (before_flags now before h.whole c.deref.result.now flags other there);
+      flags_of_current = now_flags file now before h.whole xs logs.copies.items logs.side.side here;
+      flags_of_baseline = before_flags now before h.whole c.deref.result.now baselines.copies.items baselines.left.side there;
     }
 
 pub returns-clause-prepared : goal.returns-clause-prepared
@@ -70,30 +69,32 @@ returns-clause-prepared g c = λ now before h.
     let left =
     q.left tb h.together.are_baselines ∙ ap (λ ts. not_taken ts (baseline_drafts tb)) (sym c.deref.ensures.value) in
     let long = ap length taken ∙ taken_long v (records_of tn) (records_of tb) in
-    let side = c.in_ok-side.field-0.side.side in
-    let other = c.in_ok-left.field-0.left.side in
-    let here = c.in_ok-side.ensures.woven xs now before states h.whole h.together.is_current h.current_copies in
+    let logs = c.in_ok-here.here in
+    let other = c.in_ok-there.there in
+    let here = c.in_ok-here.ensures.woven xs now before states h.whole h.together.is_current h.current_copies in
     let there =
-    subst (λ ts. AreLeftWoven ts before c.in_ok-left.field-0.copies.items other) taken
-    (c.in_ok-left.ensures now before h.whole h.together.are_baselines h.baseline_copies long left) in
-    let flags : CopyFlags = record { current = c.in_ok-side.field-0.copies; baseline = c.in_ok-left.field-0.copies } in
-    record {
-      written = woven_written v file now before current baselines h.whole h.together flags side other here there;
-      named = woven_places v file now before current baselines h.whole h.together flags side other here there;
-      without = c.in_ok-side.ensures.without now h.together.is_current h.current_copies;
-      unused =
-          c.in_ok-side.ensures.unused (records_of tn) (flat_map results_of (run_values tn))
-          (h.together.current_records ∙ sym (results_long (run_values tn))) h.together.is_current.drafts;
-      told = c.in_ok-paired.ensures.findings file tn tb h.together;
-    }
+    subst (λ ts. AreLeftWoven ts before other.copies.items other.left.side) taken
+    (c.in_ok-there.ensures now before h.whole h.together.are_baselines h.baseline_copies long left) in
+    let made = c.put_together.ensures in
+    woven_prepared v file now before current baselines h.whole h.together logs other c.put_together.result _ here there made.current made.baseline made.copies
+    (made.without ∙ c.in_ok-here.ensures.without now h.together.is_current h.current_copies)
+    (made.unused ∙ c.in_ok-here.ensures.unused (records_of tn) (flat_map results_of (run_values tn))
+    (h.together.current_records ∙ sym (results_long (run_values tn))) h.together.is_current.drafts)
+    (ap (λ fs. fs.items) made.findings ∙ c.in_ok-paired.ensures.findings file tn tb h.together)
+
+pub returns-clause-expired : goal.returns-clause-expired
+returns-clause-expired g c = λ rs. c.put_together.ensures.expired ∙ c.in_ok-here.ensures.expired rs
 
 pub returns-clause-kept : goal.returns-clause-kept
-returns-clause-kept g c = λ now before h. c.in_ok-paired.ensures.kept (without_copies now) (without_copies before) h.together
+returns-clause-kept g c = λ now before h.
+    let tn = without_copies now in
+    let tb = without_copies before in
+    let options = c.args.asked.now.options.now in
+    let rules = c.args.rules.now in
+    let merge = merge_of options.checks.matching rules.file.now (bytes_of rules) options.policy tn tb in
+    subst (λ l. IsKept merge (upkeep_in c.args.asked.now) l) (sym c.put_together.ensures.life) (c.in_ok-paired.ensures.kept tn tb h.together)
 
 pub returns-in_err-paired-clause-unkept : goal.returns-in_err-paired-clause-unkept
 returns-in_err-paired-clause-unkept g c = λ now before h.
     let p = err_from_is_err_and c.from_residual.result c.from_residual.ensures.1 in
     rw (p.1, p.2) (c.in_err-paired.ensures.unkept (without_copies now) (without_copies before) h.together)
-
-pub returns-clause-expired : goal.returns-clause-expired
-returns-clause-expired g c = c.in_ok-side.ensures.expired

@@ -1,8 +1,6 @@
-use Rattle.std.proofs.Common.{true, false, subst}
+use Rattle.std.proofs.Common.{subst}
 use Rattle.sarif_once.specs.Once.{without_copies}
 use Rattle.sarif_results.specs.Internal.Judged.{placed_in}
-use Rattle.sarif_prepare.specs.Internal.Baselines.{AreBaselines}
-use Rattle.sarif_prepare.specs.Internal.Halves.{IsCurrent}
 use Rattle.sarif_prepare.specs.Internal.Together.{AreTogether}
 use Rattle.sarif_prepare.proofs.WovenLog.{whole_sides}
 use Rattle.sarif_prepare.proofs.WrittenSides.{together}

@@ -29,7 +29,6 @@ loop-run-preserved c =
     let number = λ (p : RunParts). p.results in
     let later = drop (l.number + 1) counts in
     record {
-      parts = l.invariant.parts ∙ ap (λ rs. l.yielded ++ rs) step ∙ sym (append_assoc l.yielded (run ∷ []) left);
       counted = omega (arith, many, counted);
       members =
           ap (λ ps. map shown ps ++ map own left) pushed
@@ -47,6 +46,14 @@ loop-run-preserved c =
           ∙ l.invariant.results;
       whole = subst (AllByRecursion IsWholeRun) (sym pushed) (whole_more l.all.items parts l.invariant.whole made.whole);
     }
+
+pub returns-clause-members : goal.returns-clause-members
+returns-clause-members c =
+    let l = c.loop-run in
+    let own = λ (r : OpenedRun). bare (members_in (placed_of r).run) in
+    let shown = map (λ (p : RunParts). members_view p.members.entries) l.all.items in
+    let none : l.run-iterator.rest.items ≡ [] = nil_from_length l.run-iterator.rest.items (search (rules, c.in-None.ensures.steps)) in
+    sym (append-nil shown) ∙ sym (ap (λ rs. shown ++ map own rs) none) ∙ l.invariant.members
 
 pub returns-clause-results : goal.returns-clause-results
 returns-clause-results c =

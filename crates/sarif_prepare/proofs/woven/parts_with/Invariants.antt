@@ -9,7 +9,6 @@ use Rattle.sarif_prepare.proofs.woven.parts_with.Given as goal
 
 abbrev pub invariant-loop-run : goal.invariant-loop-run
 invariant-loop-run l = record {
-  parts : l.fn.runs.items ≡ l.yielded ++ l.run-iterator.rest.items;
   counted : l.number + length l.run-iterator.rest.items ≡ length l.counts;
   members : map (λ p. members_view p.members.entries) l.all.items ++ map (λ run. bare (members_in (placed_of run).run)) l.run-iterator.rest.items
       ≡ map (λ run. bare (members_in (placed_of run).run)) l.fn.runs.items;

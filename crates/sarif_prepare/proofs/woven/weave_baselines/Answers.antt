@@ -1,4 +1,4 @@
-use Rattle.std.proofs.Common.{◌≡◌, false, List, Some, length, map, sym, ap, ap₂, ◌∙◌}
+use Rattle.std.proofs.Common.{false, List, Some, length, map, sym, ap, ap₂, ◌∙◌}
 use Rattle.std.proofs.lemmas.List.{length-map}
 use Rattle.sarif_copies.specs.Copies.{copies_of, numbers_of, spread}
 use Rattle.sarif_once.specs.Once.{copy_marks, marked, without_copies}
@@ -22,7 +22,7 @@ use Rattle.sarif_prepare.proofs.WovenLog.{before_long}
 use Rattle.sarif_prepare.proofs.WovenParts.{counts_long, left_of_all, members_left, opened_members, total_present}
 use Rattle.sarif_prepare.proofs.woven.weave_baselines.Goals as goal
 
--- what is taken of all results
+-- which of all results are matched
 pub list_left-requires : goal.list_left-requires
 list_left-requires c =
     let before = c.requires.1 in
