@@ -23,8 +23,9 @@ pub fn page_texts_hold_no_markup()
     ensures code { (text : List ℕ) → is_code_text false (code_text text) ≡ true }
 {}
 
-/// A path or a rule in a page contains none of these either, except that `<wbr>` is after `-`, `.`, `_`, `/` and `:`,
-/// and between a small letter and a capital.
+/// A path or a rule in a page has no tag but `<wbr>`, contains no `>`, `"` or `'` outside of it, and each `&` begins an
+/// entity. `broken` adds a `<wbr>` after each `-`, `.`, `_`, `/` and `:`, and between one of `a` to `z` and one of `A` to
+/// `Z` directly after it, and nowhere else.
 pub fn page_paths_have_only_breaks()
     ensures { (text : List ℕ) → has_breaks [] (broken text) ≡ true }
 {}
