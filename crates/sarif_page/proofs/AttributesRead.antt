@@ -14,10 +14,10 @@ use Rattle.sarif_page.specs.HtmlRow.{hit_word, row_data, row_front, spot_in, pla
 use Rattle.sarif_page.proofs.TagsCounted.{escaped_none, hit_none, level_none, message_marks, plain_marks, spot_marks, state_none, tool_marks}
 
 -- reading a string adds these attributes
-record Moves (text word : List ℕ) (value : Option (List ℕ)) (found : List Attribute) (word' : List ℕ) (value' : Option (List ℕ)) : Type 0 where
-  moves : (rest : List ℕ) → attributes_from word value (text ++ rest) ≡ found ++ attributes_from word' value' rest
+pub record Moves (text word : List ℕ) (value : Option (List ℕ)) (found : List Attribute) (word' : List ℕ) (value' : Option (List ℕ)) : Type 0 where
+  pub moves : (rest : List ℕ) → attributes_from word value (text ++ rest) ≡ found ++ attributes_from word' value' rest
 
-then_moves : {a b word word' word'' : List ℕ} {value value' value'' : Option (List ℕ)} {first second : List Attribute}
+pub then_moves : {a b word word' word'' : List ℕ} {value value' value'' : Option (List ℕ)} {first second : List Attribute}
     → Moves a word value first word' value' → Moves b word' value' second word'' value'' → Moves (a ++ b) word value (first ++ second) word'' value''
 then_moves {a} {b} {word} {word'} {word''} {value} {value'} {value''} {first} {second} one two = record {
   moves = λ rest. ap (attributes_from word value) (append_assoc a b rest) ∙ one.moves (b ++ rest)
@@ -25,13 +25,13 @@ then_moves {a} {b} {word} {word'} {word''} {value} {value'} {value''} {first} {s
 }
 
 -- reading a string outside of an attribute adds these, after any word
-record Reads (text : List ℕ) (found : List Attribute) : Type 0 where
-  reads : (word : List ℕ) → (word' : List ℕ) × Moves text word None found word' None
+pub record Reads (text : List ℕ) (found : List Attribute) : Type 0 where
+  pub reads : (word : List ℕ) → (word' : List ℕ) × Moves text word None found word' None
 
-reads_to : {text : List ℕ} {found : List Attribute} (word' : List ℕ) → ((word : List ℕ) → Moves text word None found word' None) → Reads text found
+pub reads_to : {text : List ℕ} {found : List Attribute} (word' : List ℕ) → ((word : List ℕ) → Moves text word None found word' None) → Reads text found
 reads_to word' each = record { reads = λ word. (word', each word) }
 
-then_reads : {a b : List ℕ} {first second : List Attribute} → Reads a first → Reads b second → Reads (a ++ b) (first ++ second)
+pub then_reads : {a b : List ℕ} {first second : List Attribute} → Reads a first → Reads b second → Reads (a ++ b) (first ++ second)
 then_reads one two = record { reads = λ word. let x = one.reads word in let y = two.reads x.0 in (y.0, then_moves x.1 y.1) }
 
 no_quote : (b : ℕ) (bs : List ℕ) → quotes_in (b ∷ bs) ≡ 0 → ((b == 34) ≡ false) × (quotes_in bs ≡ 0)
@@ -41,7 +41,7 @@ no_quote b bs h = by (b == 34) refl (sym (sum_by-cons (λ c. cond (c == 34) 1 0)
   by false e g = (e, omega (arith, g))
 
 -- a string without quotes, outside and within an attribute
-outside : (text : List ℕ) → quotes_in text ≡ 0 → Reads text []
+pub outside : (text : List ℕ) → quotes_in text ≡ 0 → Reads text []
 outside [] h = record { reads = λ word. (word, record { moves = λ rest. refl }) }
 outside (b ∷ bs) h =
     let parts = no_quote b bs h in
@@ -56,7 +56,7 @@ outside (b ∷ bs) h =
       );
     }
 
-within : (text word value : List ℕ) → quotes_in text ≡ 0 → Moves text word (Some value) [] word (Some (value ++ text))
+pub within : (text word value : List ℕ) → quotes_in text ≡ 0 → Moves text word (Some value) [] word (Some (value ++ text))
 within [] word value h = record { moves = λ rest. ap (λ l. attributes_from word (Some l) rest) (sym (append-nil value)) }
 within (b ∷ bs) word value h =
     let parts = no_quote b bs h in
@@ -101,7 +101,7 @@ front_reads f =
 title_begin : Moves (codes " title=\"") [] None [] (codes "title=") (Some [])
 title_begin = record { moves = λ rest. refl }
 
-quote_end : (word value : List ℕ) → Moves (codes "\"") word (Some value) ((word, value) ∷ []) [] None
+pub quote_end : (word value : List ℕ) → Moves (codes "\"") word (Some value) ((word, value) ∷ []) [] None
 quote_end word value = record { moves = λ rest. refl }
 
 no_title : Moves [] [] None [] [] None
@@ -150,7 +150,7 @@ place_reads (Some address) f =
     subst (λ l. Reads (linked_place (Some address) f) (link_attributes (Some address) None ++ l)) (append-nil (path_attributes f.path f.line))
     (in_link address None (path_reads f.path f.line f.column))
 
-linked_reads : (rule : List ℕ) (help name : Option (List ℕ)) → Reads (linked rule help name) (link_attributes help name)
+pub linked_reads : (rule : List ℕ) (help name : Option (List ℕ)) → Reads (linked rule help name) (link_attributes help name)
 linked_reads rule None name = outside (rule_code rule) (plain_marks rule).quoted
 linked_reads rule (Some address) name =
     subst (Reads (linked rule (Some address) name)) (append-nil (link_attributes (Some address) name))
@@ -172,7 +172,7 @@ row_reads link f =
     regrouped : (a b c d : List Attribute) → a ++ ((b ++ c) ++ ([] ++ (d ++ []))) ≡ a ++ (b ++ (c ++ d))
     regrouped a b c d = ap (λ l. a ++ ((b ++ c) ++ l)) (append-nil d) ∙ ap (λ l. a ++ l) (append_assoc b c d)
 
-rows_reads : (link : Option (List ℕ)) (fs : List Finding) → Reads (rows_html link fs) (flat_map (row_attributes link) fs)
+pub rows_reads : (link : Option (List ℕ)) (fs : List Finding) → Reads (rows_html link fs) (flat_map (row_attributes link) fs)
 rows_reads link [] = outside [] refl
 rows_reads link (f ∷ fs) = then_reads (row_reads link f) (rows_reads link fs)
 
