@@ -30,7 +30,7 @@ use Rattle.sarif_runs.specs.declared.spots.Spot.{Spot}
 use Rattle.sarif_runs.specs.Internal.Spots.{spots_from}
 use Rattle.sarif_runs.specs.Judging.{faults_of_runs, items_of, records_in, records_of, run_values, skips}
 use Rattle.sarif_runs.specs.Placed.{Placed}
-use Rattle.sarif_prepare.specs.Internal.Apart.{copy_draft, copy_drafts, current_drafts}
+use Rattle.sarif_prepare.specs.Internal.Apart.{copy_drafts, current_drafts}
 use Rattle.sarif_prepare.specs.Internal.Baselines.{baseline_drafts, spots_with_record}
 use Rattle.sarif_prepare.specs.Internal.Halves.{drafts_in, with_draft}
 use Rattle.sarif_prepare.specs.Internal.Leftover.{found_at}

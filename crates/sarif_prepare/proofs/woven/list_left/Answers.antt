@@ -1,6 +1,6 @@
-use Rattle.std.proofs.Common.{rules, ◌≡◌, ◌+◌, ◌++◌, ◌∷◌, [], Some, take, drop, length, sym, ap, ◌∙◌, append_assoc, suc, add-one, arith}
-use Rattle.std.proofs.Math.Seq.{drop-cons}
-use Rattle.std.proofs.lemmas.List.{length-drop}
+use Rattle.std.proofs.Common.{rules, ◌≡◌, ◌+◌, ◌++◌, ◌∷◌, [], Some, take, drop, length, sym, ap, ◌∙◌, append_assoc, arith}
+use Rattle.std.specs.Prelude.{slice_index}
+use Rattle.std.proofs.lemmas.List.{drop_more, length-drop}
 use Rattle.sarif_prepare.specs.Internal.Apart.{left_counts, total}
 use Rattle.sarif_prepare.specs.Internal.LeftParts.{left_count}
 use Rattle.sarif_prepare.proofs.woven.list_left.Goals as goal
@@ -9,9 +9,8 @@ pub split_at-requires : goal.split_at-requires
 split_at-requires c =
     let l = c.loop-count in
     let counts = c.args.counts.now in
-    let count = c.count-item.result in
-    let step : drop l.count-index counts ≡ count ∷ drop (l.count-index + 1) counts =
-    rw add-one (drop-cons counts l.count-index count c.loop-count-test.true ∙ ap (λ n. n ∷ drop (suc l.count-index) counts) (sym c.count-item.is)) in
+    let count = slice_index counts l.count-index in
+    let step : drop l.count-index counts ≡ count ∷ drop (l.count-index + 1) counts = drop_more counts l.count-index 0 c.loop-count-test.true in
     let all = sym (ap total step) ∙ l.invariant.counted in
     omega (arith, all)
 
@@ -19,10 +18,9 @@ pub loop-count-preserved : goal.loop-count-preserved
 loop-count-preserved c =
     let l = c.loop-count in
     let counts = c.args.counts.now in
-    let count = c.count-item.result in
+    let count = slice_index counts l.count-index in
     let others = drop (l.count-index + 1) counts in
-    let step : drop l.count-index counts ≡ count ∷ others =
-    rw add-one (drop-cons counts l.count-index count c.loop-count-test.true ∙ ap (λ n. n ∷ drop (suc l.count-index) counts) (sym c.count-item.is)) in
+    let step : drop l.count-index counts ≡ count ∷ others = drop_more counts l.count-index 0 c.loop-count-test.true in
     let all = sym (ap total step) ∙ l.invariant.counted in
     let later = c.split_at.result.1.now in
     let number = c.count_left.ensures.count ∙ ap left_count c.split_at.ensures.front in

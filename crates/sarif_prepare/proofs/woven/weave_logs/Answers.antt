@@ -7,7 +7,7 @@ use Rattle.sarif_log.proofs.Sides.{without_results}
 use Rattle.sarif_log.specs.Internal.Texts.{own_count}
 use Rattle.sarif_log.specs.declared.run_parts.RunParts.{RunParts}
 use Rattle.sarif_model.specs.declared.kinds.State.TheVariants.{New}
-use Rattle.sarif_once.specs.Once.{copy_marks, marked, without_copies, woven}
+use Rattle.sarif_once.specs.Once.{copy_marks, without_copies, woven}
 use Rattle.sarif_once.proofs.Lists.{woven_back}
 use Rattle.sarif_once.proofs.Marks.{marked_each}
 use Rattle.sarif_once.proofs.Parts.{count_left}
