@@ -9,6 +9,7 @@ pub mod Counted
 pub mod FileAfter
 pub mod FromEnd
 pub mod Grouping
+pub mod IgnoredLog
 pub mod Joined
 pub mod Keyed
 pub mod KnownRuns
@@ -27,8 +28,10 @@ pub mod Ranked
 pub mod Read
 pub mod Remembered
 pub mod Reread
+pub mod RunsWithout
 pub mod SameBaseline
 pub mod SameLogs
 pub mod Sound
 pub mod Sums
 pub mod Tiered
+pub mod WithoutNames

@@ -1,6 +1,7 @@
 pub mod Accepting
 pub mod Adopting
 pub mod Hits
+pub mod Ignored
 pub mod KnownAgain
 pub mod Lines
 pub mod NextMerge

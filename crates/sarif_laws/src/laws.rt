@@ -16,6 +16,7 @@ ghost use Rattle.sarif_upkeep.specs.Life as life;
 ghost use Rattle.sarif_upkeep.specs.Renewed.{renewal_faults, renewed};
 ghost use Rattle.sarif_inputs.specs.Faults.{faults_of};
 ghost use Rattle.sarif_inputs.specs.Inputs.{Inputs, record_options};
+ghost use Rattle.sarif_inputs_laws.specs.Ignoring.{AreReadWithout, ignoring_none};
 ghost use Rattle.sarif_inputs_laws.specs.Parts.{baseline_in, current_in, with_sources};
 ghost use Rattle.sarif_merge.specs.Life.{merge_in};
 ghost use Rattle.sarif_merge.specs.MergedLog as log;
@@ -23,6 +24,7 @@ ghost use Rattle.sarif_merge.specs.OwnResult.{baseline_of};
 ghost use Rattle.sarif_laws.specs.Accepting.{LeavesWhatStays};
 ghost use Rattle.sarif_laws.specs.Adopting.{HasNothingNew, IsNextWith, results_kept, text_known};
 ghost use Rattle.sarif_laws.specs.Hits.{is_hit_in};
+ghost use Rattle.sarif_laws.specs.Ignored.{LacksIgnored};
 ghost use Rattle.sarif_laws.specs.KnownAgain.{IsKnownAgain};
 ghost use Rattle.sarif_laws.specs.Lines.{lines_in};
 ghost use Rattle.sarif_laws.specs.NextMerge.{IsNewFileOf};
@@ -130,4 +132,21 @@ pub fn parts_by_tool_add_up()
         ++ baseline_in (with_sources inputs more others))
         → IsSumOf (with_sources inputs logs baselines) (with_sources inputs more others)
         (with_sources inputs (logs ++ more) (baselines ++ others)) }
+{}
+
+/// The law of ignoring, for logs. Let inputs have no errors, and let other logs and baselines be read as theirs without the
+/// fingerprints that are ignored. Then the merged log of these, with nothing ignored, has the runs of the merged log of the
+/// inputs, without these members in both maps of each result. Nothing else differs: each result has the same level, state
+/// and suppressions, and the gate is the same.
+///
+/// `nothing`: if no result has such a fingerprint, ignoring changes nothing.
+pub fn logs_differ_only_in_ignored_fingerprints()
+    ensures alone { (inputs : Inputs) (logs baselines : List (List ℕ)) → faults_of inputs ≡ []
+        → AreReadWithout inputs inputs.logs logs → AreReadWithout inputs inputs.baselines baselines
+        → LacksIgnored inputs (ignoring_none inputs logs baselines) }
+    ensures nothing { (inputs : Inputs) (policy : Policy) → faults_of inputs ≡ []
+        → AreReadWithout inputs inputs.logs inputs.logs
+        → AreReadWithout inputs inputs.baselines inputs.baselines
+        → log.merged_log (ignoring_none inputs inputs.logs inputs.baselines) policy
+        ≡ log.merged_log inputs policy }
 {}
