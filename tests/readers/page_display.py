@@ -138,8 +138,8 @@ GROUND = "getComputedStyle(document.body).backgroundColor"
 LEAST_CONTRAST = 4.5
 LEAST_FOCUS = 3
 LOWEST_PLACE = 700
-# How many seconds of a processor a filter may take: on the page as it opens, and with all groups of 10,000 results open.
-# Processors with a third of the usual speed took 0.15 and 4.7, however much other work they did.
+# How many seconds of a processor a filter may take: on the page as it opens, and with all groups of 10,000 results
+# open. Processors with a third of the usual speed took 0.15 and 4.7, however much other work they did.
 MOST_SECONDS, MOST_SECONDS_OPEN = 1, 12
 MOST_HEIGHT = 40_000
 
