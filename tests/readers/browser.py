@@ -120,9 +120,10 @@ class Page:
         self.session = attached["sessionId"]
         for domain in ("Page", "Network", "Log"):
             self.ask(f"{domain}.enable")
+        self.ask("Performance.enable", timeDomain="threadTicks")
         self.ask("Emulation.setScriptExecutionDisabled", value=True)
-        features = [{"name": "prefers-color-scheme", "value": scheme}]
-        self.ask("Emulation.setEmulatedMedia", media=media, features=features)
+        self.features = [{"name": "prefers-color-scheme", "value": scheme}]
+        self.show_as(media)
         is_phone = width < 600
         self.scale = 2 if is_phone else 1
         screen = {"width": width, "height": height, "deviceScaleFactor": self.scale}
@@ -134,12 +135,21 @@ class Page:
     def ask(self, method, **given):
         return self.browser.ask(method, self.session, **given)
 
+    def show_as(self, media):
+        """Shows the page on a screen or on paper."""
+        self.ask("Emulation.setEmulatedMedia", media=media, features=self.features)
+
     def tells(self, script):
         """Returns the value of a script of the test, run on the page."""
         told = self.ask("Runtime.evaluate", expression=script, returnByValue=True)
         if "exceptionDetails" in told:
             raise Trouble(f"{script[:80]}: {told['exceptionDetails'].get('text')}")
         return told["result"].get("value")
+
+    def worked(self):
+        """The seconds of a processor that the page has taken."""
+        metrics = self.ask("Performance.getMetrics")["metrics"]
+        return next(it["value"] for it in metrics if it["name"] == "TaskDuration")
 
     def asked_for(self):
         """The addresses that the page requested, and the errors that the browser reported."""

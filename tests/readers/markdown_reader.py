@@ -1,9 +1,9 @@
 """Reads a report in Markdown with GitHub's own parser, and compares the elements of its HTML.
 
 cmark-gfm must make just the elements that the reference has, with the same strings: the verdict, the counts, the
-sentences, and a table whose rows are in order. It is called with tables alone, and with all of its extensions, as GitHub
-does. These make a link of an address of electronic mail in any text, even one whose `@` is written `&#64;`: such links
-are read as their texts. cmark-gfm is Debian's program of this name.
+sentences, and a table whose rows are in order. It is called with tables alone, and with all of its extensions, as
+GitHub does. These make a link of an address of electronic mail in any text, even one whose `@` is written `&#64;`: such
+links are read as their texts. cmark-gfm is Debian's program of this name.
 """
 
 import json
@@ -18,7 +18,8 @@ from reference_reports import Policy, Reports
 
 SECONDS = 300
 TABLES = ("-e", "table")
-ALL = (*TABLES, *(word for it in ("autolink", "footnotes", "strikethrough", "tagfilter", "tasklist") for word in ("-e", it)))
+MORE = ("autolink", "footnotes", "strikethrough", "tagfilter", "tasklist")
+ALL = (*TABLES, *(word for it in MORE for word in ("-e", it)))
 COUNTED = ("", "error", "warning", "note", "none", "suppressed")
 COLUMNS = ("hit", "level", "place", "rule", "message", "tool", "state")
 VOID = {"br", "hr", "img", "input", "wbr"}
@@ -69,7 +70,7 @@ def first_difference(wanted, found):
     return f"wanted {len(wanted)} parts, found {len(found)}: {[*wanted, *found][len(wanted):][-1:]!r:.300}"
 
 
-# ---- What the reference has: an element is its name, its attributes and its parts, and a part is a string or an element
+# ---- What the reference has: an element is its name, its attributes and its parts; a part is a string or an element
 
 
 def elements_of(reports):

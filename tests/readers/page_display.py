@@ -60,6 +60,15 @@ PARTS = """[...document.querySelectorAll(
 FIRST_PLACE = """Math.max(...[...document.querySelector(
   'li[data-hit="yes"] > :first-child').getClientRects()].map(it => it.bottom)) + window.scrollY"""
 
+# The first row of the first open group: its level, the texts of its place, its rule and its code, and how far down the
+# lowest of them ends.
+WORST = """(() => {
+  const row = document.querySelector('details[id][open] li');
+  const parts = [':scope > :first-child', ':scope > div :is(a, code)', ':scope > pre'].map(it => row.querySelector(it));
+  const lowest = Math.max(...parts.map(it => it.getBoundingClientRect().bottom)) + window.scrollY;
+  return [[row.dataset.level, ...parts.map(it => it.textContent)], lowest];
+})()"""
+
 # What has the focus, and how it is shown.
 FOCUS = """(() => {
   const it = document.activeElement, style = getComputedStyle(it);
@@ -129,6 +138,9 @@ GROUND = "getComputedStyle(document.body).backgroundColor"
 LEAST_CONTRAST = 4.5
 LEAST_FOCUS = 3
 LOWEST_PLACE = 700
+# How many seconds of a processor a filter may take: on the page as it opens, and with all groups of 10,000 results
+# open. Processors with a third of the usual speed took 0.15 and 4.7, however much other work they did.
+MOST_SECONDS, MOST_SECONDS_OPEN = 1, 12
 MOST_HEIGHT = 40_000
 
 
@@ -193,6 +205,19 @@ def in_order(page, file):
 def first_hit_is_near(page, file):
     lowest = page.tells(FIRST_PLACE)
     return [f"the first hit's place ends at {lowest}"] * (lowest > LOWEST_PLACE)
+
+
+def worst_is_seen(wanted, height):
+    """Checks that the first row that is seen has this level, place and rule, and code with this line, and that all of it
+    is in the first screen of this height."""
+
+    def look(page, file):
+        (*texts, code), lowest = page.tells(WORST)
+        wrong = [f"the first row is {texts}"] * (texts != wanted[:-1])
+        wrong += [f"its code is {code!r}"] * (wanted[-1] not in code)
+        return wrong + [f"it ends at {lowest:.0f}"] * (lowest > height)
+
+    return called("worst_is_seen", look)
 
 
 def focus_is_seen(page, file):
@@ -272,10 +297,20 @@ def ticked(page):
 
 
 def tick(page, name):
-    """Clicks on a box, with the mouse."""
+    """Clicks on a box, with the mouse. Returns the seconds of a processor until the page is laid out again."""
     page.tells("window.scrollTo(0, 0)")
     x, y = next((x, y) for it, x, y in page.tells(BOXES) if it == name)
+    began = page.worked()
     page.click(x, y)
+    page.tells("document.documentElement.scrollHeight")
+    return page.worked() - began
+
+
+def filters_all_open(page, file):
+    """Opens all groups, and ticks a box of levels and one of states."""
+    page.tells("document.querySelectorAll('details').forEach(it => it.open = true)")
+    longest = max(tick(page, name) for name in ("error", "error", "new", "new"))
+    return [f"a filter took {longest:.1f} seconds"] * (longest > MOST_SECONDS_OPEN)
 
 
 def displayed(row, boxes):
@@ -286,13 +321,14 @@ def displayed(row, boxes):
 
 def filters(page, file):
     """Ticks each box, and some together, by mouse, and one by keyboard. No script of the page runs."""
-    wrong = judged(page, "at first")
+    wrong, longest = judged(page, "at first"), 0
     names = list(ticked(page))
     for name in names:
-        tick(page, name)
+        longest = max(longest, tick(page, name))
         wrong += judged(page, f"after {name}")
-        tick(page, name)
+        longest = max(longest, tick(page, name))
     wrong += judged(page, "after all again")
+    wrong += [f"a filter took {longest:.1f} seconds"] * (longest > MOST_SECONDS)
     for name in ("updated", "error"):
         if name in names:
             tick(page, name)
@@ -312,6 +348,20 @@ def judged(page, when):
 
 
 # ---- On paper
+
+
+def filters_on_paper(page, file):
+    """Checks that the rows which a filter hides are not printed."""
+    wrong = []
+    for name in ticked(page):
+        tick(page, name)
+        page.show_as("print")
+        boxes, seen = ticked(page), page.tells(VISIBLE)
+        left = sum(displayed(row, boxes) for row in page.tells(SEEN))
+        wrong += [f"{seen} rows are printed without {name}, and not {left}"] * (seen != left)
+        page.show_as("screen")
+        tick(page, name)
+    return wrong
 
 
 def is_printed(rows):
