@@ -182,6 +182,8 @@ pub fn prepare_once<R: Threads + Sync>(
     ensures prepared { IfOk result (IsPreparedOnce asked.now.options.now.checks.matching
         rules.now.file.now (placed_in current.entry)
         (placed_in baseline.entry) (reporting_in asked.now)) }
+    ensures expired { IfOk result
+        (λ prepared. (rs : List Record) → prepared.expired ≡ expired_of rules.now.file.now rs) }
     ensures kept { IfOk result (λ prepared. IsKept (merge_of asked.now.options.now.checks.matching
         rules.now.file.now (bytes_of rules.now) asked.now.options.now.policy
         (without_copies (placed_in current.entry)) (without_copies (placed_in baseline.entry)))
