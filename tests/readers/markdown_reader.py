@@ -22,7 +22,7 @@ ALL = (*TABLES, *(word for it in ("autolink", "footnotes", "strikethrough", "tag
 COUNTED = ("", "error", "warning", "note", "none", "suppressed")
 COLUMNS = ("hit", "level", "place", "rule", "message", "tool", "state")
 VOID = {"br", "hr", "img", "input", "wbr"}
-MAIL = re.compile('<a href="mailto:[^"<>]*">([^<>]*)</a>')
+MAIL = re.compile('<a href="(?:mailto|xmpp):[^"<>]*">([^<>]*)</a>')
 # Between the parts of these there are only the ends of lines.
 OUTER = {"", "table", "thead", "tbody", "tr"}
 

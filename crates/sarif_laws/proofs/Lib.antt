@@ -9,6 +9,7 @@ pub mod Counted
 pub mod FileAfter
 pub mod FromEnd
 pub mod Grouping
+pub mod Joined
 pub mod Keyed
 pub mod KnownRuns
 pub mod Left
@@ -29,4 +30,5 @@ pub mod Reread
 pub mod SameBaseline
 pub mod SameLogs
 pub mod Sound
+pub mod Sums
 pub mod Tiered

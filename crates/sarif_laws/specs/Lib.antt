@@ -6,3 +6,4 @@ pub mod Lines
 pub mod NextMerge
 pub mod Pruning
 pub mod SameBaseline
+pub mod Sums

@@ -1,5 +1,5 @@
 //! Laws of whole merges, each the contract of a function that does nothing.
-ghost use Rattle.std.specs.Prelude.{◌≡◌, ℕ, List, [], true, false, count_by, flat_map};
+ghost use Rattle.std.specs.Prelude.{◌≡◌, ◌++◌, ℕ, List, [], true, false, count_by, flat_map};
 ghost use Rattle.std.specs.Str.{IsUtf8};
 ghost use Rattle.serde_json.specs.Data.{Data};
 ghost use Rattle.sarif_model.specs.Run.{results_of};
@@ -9,12 +9,14 @@ ghost use Rattle.sarif_options.specs.declared.upkeep.Renewal.{Renewal};
 ghost use Rattle.sarif_counts.specs.CountOf.{count_of};
 ghost use Rattle.sarif_counts.specs.Hits.{hits_of};
 ghost use Rattle.sarif_accept.specs.Until.{IsDated, IsUntil};
+ghost use Rattle.sarif_match_laws.specs.ByTool.{HaveNoToolInCommon};
 ghost use Rattle.sarif_known.specs.Laws.{AreAlike};
 ghost use Rattle.sarif_upkeep.specs.Known.{remembered, runs_known};
 ghost use Rattle.sarif_upkeep.specs.Life as life;
 ghost use Rattle.sarif_upkeep.specs.Renewed.{renewal_faults, renewed};
 ghost use Rattle.sarif_inputs.specs.Faults.{faults_of};
 ghost use Rattle.sarif_inputs.specs.Inputs.{Inputs, record_options};
+ghost use Rattle.sarif_inputs_laws.specs.Parts.{baseline_in, current_in, with_sources};
 ghost use Rattle.sarif_merge.specs.Life.{merge_in};
 ghost use Rattle.sarif_merge.specs.MergedLog as log;
 ghost use Rattle.sarif_merge.specs.OwnResult.{baseline_of};
@@ -26,6 +28,7 @@ ghost use Rattle.sarif_laws.specs.Lines.{lines_in};
 ghost use Rattle.sarif_laws.specs.NextMerge.{IsNewFileOf};
 ghost use Rattle.sarif_laws.specs.Pruning.{ChangesNoResult};
 ghost use Rattle.sarif_laws.specs.SameBaseline.{HasSameResults, with_baselines};
+ghost use Rattle.sarif_laws.specs.Sums.{IsSumOf};
 
 /// The gate counts the hits of a merged log: its number of hits is how many results of the runs are hits.
 pub fn the_gate_counts_the_hits()
@@ -111,4 +114,20 @@ pub fn own_suppressions_of_a_baseline_change_no_result()
 pub fn each_unused_entry_has_a_line()
     ensures { (inputs : Inputs) (policy : Policy) → faults_of inputs ≡ []
         → lines_in (life.unused_in (merge_in inputs policy)) ≡ log.unused_in inputs }
+{}
+
+/// Parts by tool add up: let logs and then others, with baselines and then others, have no errors, and let no tool have
+/// results in both parts. Then the runs of the merged log are those of the two merges, each result with the level, the
+/// state and the suppressions that it has there, and so are the absent results. So each count and the hits are the sums,
+/// and if no hit is allowed, the gate passes exactly if it passes in both.
+pub fn parts_by_tool_add_up()
+    ensures { (inputs : Inputs) (logs more baselines others : List (List ℕ))
+        → faults_of (with_sources inputs (logs ++ more) (baselines ++ others)) ≡ []
+        → HaveNoToolInCommon
+        (current_in (with_sources inputs logs baselines)
+        ++ baseline_in (with_sources inputs logs baselines))
+        (current_in (with_sources inputs more others)
+        ++ baseline_in (with_sources inputs more others))
+        → IsSumOf (with_sources inputs logs baselines) (with_sources inputs more others)
+        (with_sources inputs (logs ++ more) (baselines ++ others)) }
 {}

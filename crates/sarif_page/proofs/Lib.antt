@@ -7,6 +7,8 @@ pub mod FilesMore
 pub mod GroupsMore
 pub mod GroupsWhole
 pub mod IndexMore
+pub mod ListAttributesRead
+pub mod PageAttributesRead
 pub mod RowsByFile
 pub mod RowsLeft
 pub mod RulesMore

@@ -20,7 +20,7 @@ use Rattle.sarif_shown.specs.EscapedLaws.{is_element_text, is_markup, begins_ent
 use Rattle.sarif_findings.specs.Finding.{numbered, place_path}
 use Rattle.sarif_page.specs.HtmlBreaks.{break_if, broken, broken_after, breaks_after, breaks_in, ends_part, is_capital, is_small}
 use Rattle.sarif_page.specs.HtmlCode.{code_cell, code_html, code_line, code_text, marked_if}
-use Rattle.sarif_page.specs.HtmlRow.{hit_word, row_data, row_front, spot_in, place_of, linked_place, place_cell, message_cells, title_of, link_begin, rule_code, rule_cell, tool_cells, result_row, rows_html, linked}
+use Rattle.sarif_page.specs.HtmlRow.{hit_word, row_data, row_front, spot_in, place_of, linked_place, place_cell, bold, message_cells, title_of, link_begin, rule_code, rule_cell, tool_cells, result_row, rows_html, linked}
 use Rattle.sarif_page.specs.HtmlLaws.{tags_in, quotes_in, link_tags, title_quotes, link_quotes, rule_tags, rule_quotes, path_tags, path_quotes, place_tags, place_quotes, mark_tags, code_tags, row_tags, row_quotes, begins_sign, is_code_text}
 use Rattle.sarif_page.proofs.CodeApart.{code_apart}
 use Rattle.sarif_shown.proofs.EscapedApart.{page_apart, page_chars}
@@ -122,7 +122,7 @@ chars_marks small (c ∷ cs) =
     let whole = then_marks (then_marks (break_marks (small && is_capital c)) (then_marks (char_none c) (break_marks (ends_part c)))) (chars_marks (is_small c) cs) in
     record { tagged = whole.tagged ∙ omega arith; quoted = whole.quoted }
 
-broken_marks : (text : List ℕ) → Marks (breaks_in text) 0 (broken text)
+pub broken_marks : (text : List ℕ) → Marks (breaks_in text) 0 (broken text)
 unfolding broken
 broken_marks text = chars_marks false (chars text)
 
@@ -240,11 +240,14 @@ code_marks (Some code) = html_marks code
 
 -- ---- the row
 
+bold_marks : {name : List ℕ} → Marks 0 0 name → Marks 2 0 (bold name)
+bold_marks name = then_marks (fixed (codes "<b>") 1 0 refl refl) (then_marks name (fixed (codes "</b> ") 1 0 refl refl))
+
 pub message_marks : (f : Finding) → Marks (5 + code_tags f.code) 0 (message_cells f)
 unfolding message_cells
 message_marks f =
     let whole =
-    then_marks (fixed (codes " <b>") 1 0 refl refl) (then_marks (level_none f.level) (then_marks (fixed (codes "</b> <p>") 2 0 refl refl)
+    then_marks (fixed (codes " ") 0 0 refl refl) (then_marks (bold_marks (level_none f.level)) (then_marks (fixed (codes "<p>") 1 0 refl refl)
     (then_marks (escaped_none f.message) (then_marks (fixed (codes "</p>") 1 0 refl refl)
     (then_marks (code_marks f.code) (fixed (codes " <div>") 1 0 refl refl)))))) in
     record { tagged = whole.tagged ∙ omega arith; quoted = whole.quoted }
@@ -252,8 +255,8 @@ message_marks f =
 pub tool_marks : (f : Finding) → Marks 6 0 (tool_cells f)
 unfolding tool_cells
 tool_marks f =
-    then_marks (fixed (codes "<span><b>") 2 0 refl refl) (then_marks (state_none f.state) (then_marks (fixed (codes "</b> ") 1 0 refl refl)
-    (then_marks (escaped_none f.tool) (fixed (codes "</span></div></li>\n") 3 0 refl refl))))
+    then_marks (fixed (codes "<span>") 1 0 refl refl) (then_marks (bold_marks (state_none f.state))
+    (then_marks (escaped_none f.tool) (fixed (codes "</span></div></li>\n") 3 0 refl refl)))
 
 row_marks : (link : Option (List ℕ)) (f : Finding) → Marks (row_tags link f) (row_quotes link f) (result_row link f)
 unfolding result_row

@@ -68,11 +68,14 @@ linked_place (Some address) f = link_begin address None ++ (place_text f ++ code
 abbrev pub place_cell : Option (List ℕ) → Finding → List ℕ
 place_cell link f = linked_place (place_link link f) f
 
+-- a level or a state
+abbrev pub bold : List ℕ → List ℕ
+bold name = codes "<b>" ++ (name ++ codes "</b> ")
+
 unfoldable pub message_cells : Finding → List ℕ
 message_cells f =
-    codes " <b>" ++ (level_name f.level
-    ++ (codes "</b> <p>" ++ (escaped Page f.message ++ (codes "</p>"
-    ++ (code_cell f.code ++ codes " <div>")))))
+    codes " " ++ (bold (level_name f.level) ++ (codes "<p>" ++ (escaped Page f.message
+    ++ (codes "</p>" ++ (code_cell f.code ++ codes " <div>")))))
 
 abbrev pub rule_code : List ℕ → List ℕ
 rule_code rule = codes "<code>" ++ (broken rule ++ codes "</code>")
@@ -89,8 +92,8 @@ rule_cell (b ∷ bs) help name = linked (b ∷ bs) help name ++ codes " "
 
 unfoldable pub tool_cells : Finding → List ℕ
 tool_cells f =
-    codes "<span><b>" ++ (state_name f.state
-    ++ (codes "</b> " ++ (escaped Page f.tool ++ codes "</span></div></li>\n")))
+    codes "<span>" ++ (bold (state_name f.state)
+    ++ (escaped Page f.tool ++ codes "</span></div></li>\n"))
 
 unfoldable pub result_row : Option (List ℕ) → Finding → List ℕ
 result_row link f =

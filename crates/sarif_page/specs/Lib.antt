@@ -12,3 +12,5 @@ pub mod HtmlRules
 pub mod HtmlStyle
 pub mod HtmlWords
 pub mod Internal
+pub mod ListAttributes
+pub mod PageAttributes

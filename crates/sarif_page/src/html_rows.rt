@@ -254,15 +254,25 @@ fn push_rule(alloc: Global, text: &mut String, finding: &Finding) -> Result<(), 
     Ok(())
 }
 
+/// Adds a level or a state.
+fn push_bold(text: &mut String, name: &str) -> Result<(), AllocError>
+    ensures { OnOk result (string_bytes text.new ≡ string_bytes text.old ++ said.bold name.now) }
+{
+    text.push_str("<b>")?;
+    text.push_str(name)?;
+    text.push_str("</b> ")?;
+    Ok(())
+}
+
 /// Adds the level, the message and the code of a row.
 #[tactic(auto, unfolding(crate::specs::HtmlRow::message_cells))]
 fn push_message_cells(alloc: Global, text: &mut String, finding: &Finding) -> Result<(), AllocError>
     ensures { OnOk result
         (string_bytes text.new ≡ string_bytes text.old ++ said.message_cells finding.now) }
 {
-    text.push_str(" <b>")?;
-    text.push_str(finding.level.name())?;
-    text.push_str("</b> <p>")?;
+    text.push_str(" ")?;
+    push_bold(text, finding.level.name())?;
+    text.push_str("<p>")?;
     Escaping::Page.push_str(alloc, text, finding.message.as_str())?;
     text.push_str("</p>")?;
     push_code(alloc, text, finding)?;
@@ -276,9 +286,8 @@ fn push_tool_cells(alloc: Global, text: &mut String, finding: &Finding) -> Resul
     ensures { OnOk result
         (string_bytes text.new ≡ string_bytes text.old ++ said.tool_cells finding.now) }
 {
-    text.push_str("<span><b>")?;
-    text.push_str(finding.state.name())?;
-    text.push_str("</b> ")?;
+    text.push_str("<span>")?;
+    push_bold(text, finding.state.name())?;
     Escaping::Page.push_str(alloc, text, finding.tool.as_str())?;
     text.push_str("</span></div></li>\n")?;
     Ok(())

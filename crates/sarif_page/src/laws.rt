@@ -8,13 +8,16 @@ ghost use Rattle.sarif_findings.specs.declared.finding.Finding.{Finding};
 ghost use Rattle.sarif_shown.specs.declared.escaping.Escaping.TheVariants.{Page};
 ghost use Rattle.sarif_shown.specs.Escaped.{escaped};
 ghost use Rattle.sarif_shown.specs.EscapedLaws.{is_element_text};
+ghost use Rattle.sarif_shown.specs.Facts.{Facts};
 ghost use Rattle.sarif_shown.specs.Listed.{hits_among, others_among};
 ghost use Rattle.sarif_page.specs.HtmlAttributes.{attributes_in, row_attributes};
 ghost use Rattle.sarif_page.specs.HtmlBreaks.{broken};
 ghost use Rattle.sarif_page.specs.HtmlCode.{code_text};
+ghost use Rattle.sarif_page.specs.HtmlReport.{html_of};
 ghost use Rattle.sarif_page.specs.HtmlRow.{rows_html};
 ghost use Rattle.sarif_page.specs.HtmlLaws.{are_together, has_breaks, is_code_text, quotes_in, row_quotes, row_tags, tags_in};
 ghost use Rattle.sarif_page.specs.HtmlRows as page;
+ghost use Rattle.sarif_page.specs.PageAttributes.{page_attributes};
 
 /// A string in a page contains no `<`, `>`, `"` or `'`, and each `&` of it begins an entity: no string makes a tag
 /// or an attribute. In code each `#` is written by its number, `&#35;`.
@@ -23,8 +26,9 @@ pub fn page_texts_hold_no_markup()
     ensures code { (text : List ℕ) → is_code_text false (code_text text) ≡ true }
 {}
 
-/// A path or a rule in a page contains none of these either, except that `<wbr>` is after `-`, `.`, `_`, `/` and `:`,
-/// and between a small letter and a capital.
+/// A path or a rule in a page has no tag but `<wbr>`, contains no `>`, `"` or `'` outside of it, and each `&` begins an
+/// entity. `broken` adds a `<wbr>` after each `-`, `.`, `_`, `/` and `:`, and between one of `a` to `z` and one of `A` to
+/// `Z` directly after it, and nowhere else.
 pub fn page_paths_have_only_breaks()
     ensures { (text : List ℕ) → has_breaks [] (broken text) ≡ true }
 {}
@@ -81,4 +85,12 @@ pub fn page_rows_have_their_tags()
 pub fn page_rows_have_their_attributes()
     ensures { (link : Option (List ℕ)) (findings : List Finding) →
         attributes_in (rows_html link findings) ≡ flat_map (row_attributes link) findings }
+{}
+
+/// A reader of the whole page finds only the attributes that are stated for it, in their order, for any strings of a log
+/// and any template of links. So each `id` is `hits` or `others`, the name of a level or of a state, or `f` and the
+/// number of a group. Each `href` is `#hits`, `#others`, `#f` and the number of a group, the address of a place by the
+/// template, or that of a rule.
+pub fn page_has_its_attributes()
+    ensures { (facts : Facts) → attributes_in (html_of facts) ≡ page_attributes facts }
 {}

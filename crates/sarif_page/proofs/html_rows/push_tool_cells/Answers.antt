@@ -6,10 +6,9 @@ pub returns : goal.returns
 unfolding tool_cells
 returns c =
     rw (
-      c.in_ok-push_str-5.ensures.bytes,
-      c.in_ok-push_str-4.ensures,
       c.in_ok-push_str-3.ensures.bytes,
-      c.in_ok-push_str-2.ensures.bytes,
+      c.in_ok-push_str-2.ensures,
+      c.in_ok-push_bold.ensures,
       c.in_ok-push_str.ensures.bytes,
       c.name.ensures,
       c.as_str.ensures,

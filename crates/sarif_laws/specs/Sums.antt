@@ -1,0 +1,40 @@
+-- A merge whose log and counts are those of two others together.
+use Rattle.std.specs.Prelude.{◌≡◌, ◌↔◌, ℕ, ◌+◌, ◌++◌, Bool}
+use Rattle.sarif_model.specs.declared.kinds.Level.{Level}
+use Rattle.sarif_model.specs.declared.kinds.State.{State}
+use Rattle.sarif_options.specs.declared.policy.Policy.{Policy}
+use Rattle.sarif_counts.specs.declared.gate_verdict.Verdict.TheVariants.{Pass}
+use Rattle.sarif_counts.specs.CountOf.{count_of}
+use Rattle.sarif_counts.specs.Hits.{Count, hits_of, verdict_of}
+use Rattle.sarif_inputs.specs.Inputs.{Inputs}
+use Rattle.sarif_merge.specs.MergedLog.{runs_written, without_of, written_inputs}
+use Rattle.sarif_laws.specs.NextMerge.{absent_written}
+
+-- what the gate of the merge counts
+abbrev pub counts_in : Inputs → Count
+counts_in inputs = count_of (runs_written inputs)
+
+-- the hits that it counts
+abbrev pub hits_in : Inputs → Policy → ℕ
+hits_in inputs policy = hits_of (counts_in inputs) policy
+
+-- the merge passes
+abbrev pub Passes : Inputs → Policy → Type 0
+Passes inputs policy = verdict_of (counts_in inputs) policy ≡ Pass
+
+-- a merge whose log and counts are those of two others
+pub record IsSumOf (first second both : Inputs) : Type 0 where
+  -- each input run is written as in its own merge: each result with its level, its state and its suppressions
+  pub written : written_inputs both ≡ written_inputs first ++ written_inputs second
+  -- and the absent results are those of the two
+  pub absent : absent_written both ≡ absent_written first ++ absent_written second
+  -- so each count is the sum of the two counts
+  pub counts : (state : State) (level : Level) (suppressed : Bool)
+      → counts_in both state level suppressed
+      ≡ counts_in first state level suppressed + counts_in second state level suppressed
+  pub without : without_of both ≡ without_of first + without_of second
+  -- and the hits are the sum of the hits
+  pub hits : (policy : Policy) → hits_in both policy ≡ hits_in first policy + hits_in second policy
+  -- so if no hit is allowed, the gate passes exactly if it passes in both
+  pub verdict : (policy : Policy) → policy.max ≡ 0
+      → Passes both policy ↔ (Passes first policy × Passes second policy)
