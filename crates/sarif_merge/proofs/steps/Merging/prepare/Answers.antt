@@ -5,15 +5,15 @@ use Rattle.sarif_merge.specs.Internal.Steps.{IsRejection}
 use Rattle.sarif_merge.proofs.StepFacts.{file_was_given, is_ready, judged_first, judged_second, rejected_life}
 use Rattle.sarif_merge.proofs.steps.Merging.prepare.Goals as goal
 
-pub prepare-requires-clause-read : goal.prepare-requires-clause-read
-prepare-requires-clause-read g c κs within =
+pub prepare_by-requires-clause-read : goal.prepare_by-requires-clause-read
+prepare_by-requires-clause-read g c κs within =
     file_was_given c.args.self.now (option_map (λ b. b.now) c.slice_of.result) c.args.file.now c.requires.file c.slice_of.ensures
 
-pub prepare-requires-clause-current : goal.prepare-requires-clause-current
-prepare-requires-clause-current g c κs within = judged_first c.args.self.now c.args.file.now c.args.logs c.requires.file c.requires.logs
+pub prepare_by-requires-clause-current : goal.prepare_by-requires-clause-current
+prepare_by-requires-clause-current g c κs within = judged_first c.args.self.now c.args.file.now c.args.logs c.requires.file c.requires.logs
 
-pub prepare-requires-clause-baseline : goal.prepare-requires-clause-baseline
-prepare-requires-clause-baseline g c κs within = judged_second c.args.self.now c.args.file.now c.args.baselines c.requires.file c.requires.baselines
+pub prepare_by-requires-clause-baseline : goal.prepare_by-requires-clause-baseline
+prepare_by-requires-clause-baseline g c κs within = judged_second c.args.self.now c.args.file.now c.args.baselines c.requires.file c.requires.baselines
 
 pub returns-in_err-prepared-clause-refused : goal.returns-in_err-prepared-clause-refused
 returns-in_err-prepared-clause-refused g c =
