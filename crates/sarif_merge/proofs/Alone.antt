@@ -1,6 +1,7 @@
 -- A merge from which nothing was requested for later merges.
-use Rattle.std.proofs.Common.{◌≡◌, ◌⊎◌, ℕ, List, Option, Some, inl, inr}
-use Rattle.std.specs.Prelude.{None}
+use Rattle.std.proofs.Common.{◌≡◌, ◌<◌, ◌⊎◌, ℕ, List, Option, Some, inl, inr, length, subst, ◌∙◌}
+use Rattle.std.specs.Io.KnownBytes.{Appends}
+use Rattle.std.specs.Prelude.{None, take}
 use Rattle.sarif_counts.specs.declared.life.Life.{Life}
 use Rattle.sarif_options.specs.declared.options.Options.{Options}
 use Rattle.sarif_options.specs.declared.policy.Policy.{Policy}
@@ -13,7 +14,7 @@ use Rattle.sarif_inputs.specs.Faults.{first_fault}
 use Rattle.sarif_inputs.specs.Inputs.{Inputs}
 use Rattle.sarif_merge.specs.Life.{IsLifeOf, IsRefusal, no_life}
 use Rattle.sarif_streams.specs.declared.readers.Readers.{Readers}
-use Rattle.sarif_merge.specs.FromReaders.{IsMergedFrom, IsMergedWith, IsRefused, IsRefusedWith}
+use Rattle.sarif_merge.specs.FromReaders.{IsMergedFrom, IsMergedWith, IsPartlyWritten, IsRefused, IsRefusedWith}
 
 -- the merge that was read is that of the log alone
 pub merged_alone : {R : Type 0} → (remaining : R → Option (List ℕ)) → (old new : Readers R) → (options : Options) → (asked : Option Reporting)
@@ -44,3 +45,12 @@ pub refused_first : {R : Type 0} → (remaining : R → Option (List ℕ)) → (
     → (fault : MergeFault)
     → IsRefused remaining old new options fault → IsRefusedWith remaining old new options upkeep fault
 refused_first remaining old new options upkeep fault refused = inl refused
+
+-- a prefix of the text of the log was written
+pub partly_written : {R : Type 0} → (remaining : R → Option (List ℕ)) → (old new : Readers R) → (options : Options) → (merged : Merged)
+    → (before after : Option (List ℕ)) → (bytes : List ℕ) → (n : ℕ)
+    → IsMergedWith remaining old new options None None merged → bytes ≡ merged.log
+    → n < length bytes → Appends before after (take n bytes) → IsPartlyWritten remaining old new options before after
+partly_written remaining old new options merged before after bytes n made same less written =
+    let text = same ∙ made.2.log in
+    (made.0, made.1, made.2.faultless, (n, subst (λ b. n < length b) text less, subst (λ b. Appends before after (take n b)) text written))
