@@ -10,7 +10,7 @@ import tempfile
 import threading
 import time
 from contextlib import contextmanager
-from http.server import BaseHTTPRequestHandler, HTTPServer
+from http.server import BaseHTTPRequestHandler, ThreadingHTTPServer
 from pathlib import Path
 
 from debian import had
@@ -203,8 +203,8 @@ class Strict(BaseHTTPRequestHandler):
 
 @contextmanager
 def served(folder):
-    """The address of a server for this folder."""
-    server = HTTPServer(("127.0.0.1", 0), Strict)
+    """The address of a server for this folder. It has threads, as a browser opens connections that it doesn't use."""
+    server = ThreadingHTTPServer(("127.0.0.1", 0), Strict)
     server.folder = folder
     serving = threading.Thread(target=server.serve_forever, daemon=True)
     serving.start()
