@@ -1,10 +1,14 @@
 -- The facts of a merge, as its outputs are made from them, and the lines on what is for later merges.
-use Rattle.std.proofs.Common.{◌≡◌, ◌++◌, [], Some, None, false, refl}
+use Rattle.std.proofs.Common.{◌≡◌, ◌++◌, ◌∙◌, ℕ, [], Option, Some, None, false, ap, length, refl}
+use Rattle.std.specs.Prelude.{option_map}
 use Rattle.sarif_counts.specs.declared.life.Life.{Life}
 use Rattle.sarif_counts.specs.Counts.{count_at}
+use Rattle.sarif_inputs.specs.Inputs.{Inputs, baseline_runs, input_runs}
 use Rattle.sarif_log.specs.declared.facts.Facts.{Facts as MergeFacts}
 use Rattle.sarif_log.specs.declared.merged.Merged.{Merged}
 use Rattle.sarif_log.specs.Beside.{AreFactsOf}
+use Rattle.sarif_merge.specs.MergedLog.{copies_in_log}
+use Rattle.sarif_prepare.specs.By.{copies_if}
 use Rattle.sarif_request.specs.declared.request.Request.{Request}
 use Rattle.sarif_program.specs.Notes.{copies_line, happened_if, lines_for, lines_of, lines_with}
 use Rattle.sarif_program.specs.Reports.{facts_for, facts_with}
@@ -31,3 +35,8 @@ same_lines request merged facts are =
 pub no_lines : (request : Request) (merged : Merged) → merged.life.suppressions ≡ None → merged.life.known ≡ None → merged.copies ≡ None
     → request.explain ≡ false → lines_for request merged ≡ []
 no_lines request merged unrenewed unknown counted plain = rw (unrenewed, unknown, counted, plain) refl
+
+-- there are no copies if they are counted
+pub no_copies : (inputs : Inputs) (copies : Option ℕ) → copies ≡ option_map length (copies_in_log inputs) → inputs.checks.once ≡ false → copies ≡ None
+no_copies inputs copies same counted =
+    same ∙ ap (λ once. option_map length (copies_if once inputs.checks.matching (input_runs inputs) (baseline_runs inputs))) counted

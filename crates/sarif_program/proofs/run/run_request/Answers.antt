@@ -1,4 +1,4 @@
-use Rattle.std.proofs.Common.{◌≡◌, inl, inr, ℕ, List, Some, ap, length, arith, nat_eq, refl, subst, sym, ◌∙◌, ◌+◌}
+use Rattle.std.proofs.Common.{◌≡◌, inl, inr, ℕ, List, Some, ap, arith, nat_eq, refl, subst, sym, ◌∙◌, ◌+◌}
 use Rattle.std.specs.Io.KnownBytes.{Appends}
 use Rattle.std.specs.Prelude.{option_map}
 use Rattle.sarif_counts.specs.declared.life.Life.{Life}
@@ -7,7 +7,6 @@ use Rattle.sarif_merge.specs.Given.{given_by}
 use Rattle.sarif_streams.proofs.ReadersRead.{were_read_quiet}
 use Rattle.sarif_merge.specs.FromReaders.{IsMergedWith, IsTooLargeWith}
 use Rattle.sarif_model.specs.FirstFault.{first}
-use Rattle.sarif_prepare.specs.By.{copies_if}
 use Rattle.sarif_request.specs.declared.wanted.RequestedOutput.{RequestedOutput}
 use Rattle.sarif_streams.specs.declared.counted.Counted.{Counted}
 use Rattle.sarif_streams.specs.Counted.{inner_of, RisesIf}
@@ -19,7 +18,7 @@ use Rattle.sarif_program.specs.Writing.{writer_failures}
 use Rattle.sarif_program.proofs.Quiet.{low_status, quiet_status, no_rise, refused_rise}
 use Rattle.sarif_program.proofs.Lost.{lost_with, none_found}
 use Rattle.sarif_program.proofs.Rising.{exactly, no_writer_has_fallen, none_rises}
-use Rattle.sarif_program.proofs.SameFacts.{no_lines}
+use Rattle.sarif_program.proofs.SameFacts.{no_copies, no_lines}
 use Rattle.sarif_program.proofs.run.run_request.Goals as goal
 
 pub returns-in-Ok-clause-accepted : goal.returns-in-Ok-clause-accepted
@@ -136,7 +135,8 @@ returns-in-Ok-clause-quiet g c = λ low. record {
   last = (c.accept.ensures.noted low).last;
   silent = λ unrenewed unknown counted plain.
       let is = c.in-Ok.ensures.merged.3.is in
-      let copies = c.in-Ok.ensures.merged.2.copies ∙ ap (λ once. option_map length (copies_if once _ _ _)) counted in
+      let inputs = given_by c.in-Ok.ensures.merged.0 c.args.request.now.options in
+      let copies = no_copies inputs c.in-Ok.merged.copies c.in-Ok.ensures.merged.2.copies counted in
       let none = no_lines c.args.request.now c.in-Ok.merged (ap (λ (life : Life). life.suppressions) is ∙ ap (option_map _) unrenewed)
       (ap (λ (life : Life). life.known) is ∙ ap (option_map _) unknown) copies plain in
       (c.accept.ensures.noted low).none (c.in-Ok.ensures.lines ∙ none);
