@@ -1,5 +1,5 @@
 -- Inputs without the fingerprints that a merge ignores.
-use Rattle.std.proofs.Common.{◌≡◌, ◌+◌, ◌≤◌, ℕ, suc, List, [], ◌∷◌, ◌++◌, length, map, refl, sym, ap, ap₂, ◌∙◌, arith}
+use Rattle.std.proofs.Common.{◌≡◌, ◌+◌, ◌≤◌, ◌||◌, ℕ, suc, List, [], ◌∷◌, ◌++◌, length, map, refl, sym, ap, ap₂, ◌∙◌, arith}
 use Rattle.std.specs.List.{AllZip}
 use Rattle.std.proofs.lemmas.List.{length-map, map-append}
 use Rattle.serde_json.specs.Data.{Data}
@@ -74,7 +74,7 @@ module _ (checks : Checks) where
       (λ i. record {
         source = source;
         number = n;
-        options = record { must_succeed = must i; records = record { regions = looks_at_regions checks.matching; ignored = [] } };
+        options = record { must_succeed = must i; records = record { regions = looks_at_regions checks.matching || checks.once; ignored = [] } };
         run = run_without checks.ignored run;
       } ∷ from_without source must (n + 1) runs i)
 

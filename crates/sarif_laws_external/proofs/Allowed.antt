@@ -13,8 +13,8 @@ use Rattle.sarif_inputs.specs.Internal.Allowing.{IsReadAlike, allowing}
 use Rattle.sarif_inputs.specs.Faults.{faults_of}
 use Rattle.sarif_inputs.specs.Inputs.{Inputs, baseline_runs, input_runs}
 use Rattle.sarif_inputs.proofs.AllowedAlike.{all_alike, baseline_alike, current_alike}
+use Rattle.sarif_prepare.specs.By.{logged_by}
 use Rattle.sarif_prepare.specs.Kept.{merge_of}
-use Rattle.sarif_log.specs.LogBy.{merged_by}
 use Rattle.sarif_merge.specs.Life.{merge_in}
 use Rattle.sarif_merge.specs.MergedLog.{file_given, merged_log, output_text}
 use Rattle.sarif_laws_external.specs.Fileless.{AreFileless, IsFileless}
@@ -43,7 +43,7 @@ baseline inputs fileless = baseline_alike inputs (all_read_alike inputs.baseline
 
 pub log_alike : (inputs : Inputs) (policy : Policy) → AreFileless inputs → merged_log (allowing true inputs) policy ≡ merged_log (allowing false inputs) policy
 log_alike inputs policy fileless =
-    λ i. merged_by inputs.checks.matching (file_given inputs) (current inputs fileless i) (baseline inputs fileless i) policy
+    λ i. logged_by inputs.checks (file_given inputs) (current inputs fileless i) (baseline inputs fileless i) policy
 
 pub text_alike : (inputs : Inputs) (policy : Policy) → AreFileless inputs
     → output_text (allowing true inputs) policy ≡ output_text (allowing false inputs) policy
