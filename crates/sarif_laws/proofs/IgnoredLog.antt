@@ -25,9 +25,9 @@ use Rattle.sarif_inputs_laws.proofs.Ignored.{ignored_missing}
 use Rattle.sarif_results.specs.Drafts.{Listing}
 use Rattle.sarif_log.specs.LogBy.{listing_of, log_by, runs_without_results, states_of, taken_of}
 use Rattle.sarif_log.specs.MergedRuns.{absent_runs, merged_runs}
-use Rattle.sarif_merge.specs.MergedLog.{current_of, file_given, merged_log, runs_written, unused_in, without_of, written_inputs}
+use Rattle.sarif_merge.specs.MergedLog.{current_of, file_given, runs_written, unused_in, without_of, written_inputs}
 use Rattle.sarif_merge.specs.OwnResult.{baseline_of}
-use Rattle.sarif_laws.specs.Ignored.{LacksIgnored, gate_in}
+use Rattle.sarif_laws.specs.Ignored.{LacksIgnored, gate_in, log_of_all}
 use Rattle.sarif_laws.specs.NextMerge.{absent_written}
 use Rattle.sarif_laws.specs.Sums.{counts_in}
 use Rattle.sarif_laws.proofs.RunsWithout.{absent_without, bare_without, count_without, merged_without}
@@ -158,7 +158,7 @@ module _ (inputs : Inputs) (none : faults_of inputs ≡ []) (same : AreReadWitho
       ap₂ (λ cs bs. as_before cs bs (run_values (input_runs again)) (run_values (baseline_runs again))) known.current known.baseline
       ∙ ap₂ (as_before (current_of inputs) (baseline_of inputs)) now_same (values_same inputs.checks Baseline 0 inputs.baselines)
 
-  pub nothing_changes : (policy : Policy) → merged_log again policy ≡ merged_log inputs policy
+  pub nothing_changes : (policy : Policy) → log_of_all again policy ≡ log_of_all inputs policy
   nothing_changes policy =
       ap (λ runs. log_by runs policy (without_of again) (unused_in again)) runs_same
       ∙ ap₂ (λ m n. log_by (runs_written inputs) policy m n) (ap runs_without_results now_same) (ap (unused_of (file_given inputs)) known.current)

@@ -7,6 +7,7 @@ use Rattle.sarif_counts.specs.Hits.{verdict_of}
 use Rattle.sarif_runs_laws.specs.Ignoring.{run_without}
 use Rattle.sarif_inputs.specs.Faults.{faults_of}
 use Rattle.sarif_inputs.specs.Inputs.{Inputs}
+use Rattle.sarif_log.specs.LogBy.{log_by}
 use Rattle.sarif_merge.specs.MergedLog.{runs_written, unused_in, without_of}
 use Rattle.sarif_laws.specs.Sums.{counts_in}
 
@@ -14,6 +15,11 @@ use Rattle.sarif_laws.specs.Sums.{counts_in}
 abbrev pub gate_in : Inputs → Policy → Data
 gate_in inputs policy =
     gate_of (counts_in inputs) policy (without_of inputs) (unused_in inputs)
+
+-- the log of the merge, if each result is counted
+abbrev pub log_of_all : Inputs → Policy → Data
+log_of_all inputs policy =
+    log_by (runs_written inputs) policy (without_of inputs) (unused_in inputs)
 
 -- another merge without errors, whose log lacks the ignored fingerprints of this one and is equal otherwise
 pub record LacksIgnored (inputs other : Inputs) : Type 0 where

@@ -24,7 +24,7 @@ ghost use Rattle.sarif_merge.specs.OwnResult.{baseline_of};
 ghost use Rattle.sarif_laws.specs.Accepting.{LeavesWhatStays};
 ghost use Rattle.sarif_laws.specs.Adopting.{HasNothingNew, IsNextWith, results_kept, text_known};
 ghost use Rattle.sarif_laws.specs.Hits.{is_hit_in};
-ghost use Rattle.sarif_laws.specs.Ignored.{LacksIgnored};
+ghost use Rattle.sarif_laws.specs.Ignored.{LacksIgnored, log_of_all};
 ghost use Rattle.sarif_laws.specs.KnownAgain.{IsKnownAgain};
 ghost use Rattle.sarif_laws.specs.Lines.{lines_in};
 ghost use Rattle.sarif_laws.specs.NextMerge.{IsNewFileOf};
@@ -147,6 +147,6 @@ pub fn logs_differ_only_in_ignored_fingerprints()
     ensures nothing { (inputs : Inputs) (policy : Policy) → faults_of inputs ≡ []
         → AreReadWithout inputs inputs.logs inputs.logs
         → AreReadWithout inputs inputs.baselines inputs.baselines
-        → log.merged_log (ignoring_none inputs inputs.logs inputs.baselines) policy
-        ≡ log.merged_log inputs policy }
+        → log_of_all (ignoring_none inputs inputs.logs inputs.baselines) policy
+        ≡ log_of_all inputs policy }
 {}
