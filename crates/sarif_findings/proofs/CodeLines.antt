@@ -11,9 +11,9 @@ use Rattle.std.proofs.lemmas.Str.{chars_past_char, length-encode, len_utf8_bound
 use Rattle.std.proofs.Math.Nat.{min-le_left, min-le_right}
 use Rattle.sarif_findings.specs.declared.code_indented.Indented.{Indented}
 use Rattle.sarif_findings.specs.Code.{common_indent, cut_line, indent_of, is_blank, is_space, is_written, least, most_of_line, spread, spread_line, without_indent}
-use Rattle.sarif_findings.specs.Internal.CodeParts.{KeepsAll, cut_of, least_with, lesser, line_of, without_spaces_of}
+use Rattle.sarif_findings.specs.Internal.CodeParts.{cut_of, least_with, lesser, line_of, without_spaces_of}
 use Rattle.sarif_findings.specs.declared.shown_text.ShownText.{ShownText}
-use Rattle.sarif_findings.specs.Internal.ShownSoFar.{kept_with}
+use Rattle.sarif_findings.specs.Internal.ShownSoFar.{KeepsAll, kept_with}
 use Rattle.sarif_findings.specs.Shown.{kept, plain}
 use Rattle.sarif_findings.proofs.ShownMore.{kept-nil}
 

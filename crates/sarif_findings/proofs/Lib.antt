@@ -22,6 +22,7 @@ pub mod LinksWhole
 pub mod MessageMore
 pub mod MessageWhole
 pub mod PathMore
+pub mod PrintableLines
 pub mod ReportedMore
 pub mod RulesMore
 pub mod SeenMore

@@ -1,5 +1,5 @@
 -- A string that is shown unchanged.
-use Rattle.std.proofs.Common.{◌≡◌, ◌<◌, ◌≤◌, ◌==◌, ◌+◌, ◌-◌, ℕ, suc, Bool, true, false, List, [], ◌∷◌, ◌++◌, length, map, chars, refl, sym, ap, ◌∙◌, append_assoc, string_bytes, ne_eqb, arith}
+use Rattle.std.proofs.Common.{◌≡◌, ◌<◌, ◌≤◌, ◌==◌, ◌+◌, ◌-◌, ℕ, suc, Bool, true, false, not, List, [], ◌∷◌, ◌++◌, length, map, chars, refl, sym, ap, ◌∙◌, append_assoc, string_bytes, ne_eqb, arith}
 use Rattle.std.specs.Prelude.{encode_utf8_all}
 use Rattle.std.specs.List.{list_all}
 use Rattle.std.proofs.lemmas.Bool.{and_parts}
@@ -8,14 +8,17 @@ use Rattle.std.proofs.lemmas.List.{map-append}
 use Rattle.std.proofs.lemmas.Str.{encode_ascii, encodes-append}
 use Rattle.sarif_findings.specs.declared.shown_text.ShownText.{ShownText}
 use Rattle.sarif_findings.specs.Shown.{is_between, is_control, is_unseen_mark, is_blank_letter, is_concealed, kept, parted, parted_signs, plain}
-use Rattle.sarif_findings.specs.Internal.ShownSoFar.{is_verbatim, TakesCharacters}
+use Rattle.sarif_findings.specs.Internal.ShownSoFar.{is_printable, is_verbatim, KeepsAll, TakesCharacters}
 use Rattle.sarif_findings.proofs.CharsBack.{chars_back}
 use Rattle.sarif_findings.proofs.ShownMore.{kept-cons}
 
 -- ---- one byte
 
-low : (b : ℕ) → is_verbatim b ≡ true → b < 128
+pub low : (b : ℕ) → is_printable b ≡ true → b < 128
 low b h = grind (arith, nat_tests, h)
+
+printable : (b : ℕ) → is_verbatim b ≡ true → is_printable b ≡ true
+printable b h = (and_parts (is_printable b) (not (b == 35)) h).0
 
 no_sign : (b : ℕ) → is_verbatim b ≡ true → (b == 35) ≡ false
 no_sign b h = grind (arith, nat_tests, h)
@@ -23,7 +26,7 @@ no_sign b h = grind (arith, nat_tests, h)
 beyond : (b first last : ℕ) → b < first → is_between first last b ≡ false
 beyond b first last less = grind (arith, nat_tests, less)
 
-not_control : (b : ℕ) → is_verbatim b ≡ true → is_control b ≡ false
+not_control : (b : ℕ) → is_printable b ≡ true → is_control b ≡ false
 not_control b h = grind (arith, nat_tests, h)
 
 not_unseen : (b : ℕ) → b < 128 → is_unseen_mark b ≡ false
@@ -52,10 +55,10 @@ not_blank b small =
       ne_eqb b 0xFFA0 (λ e. omega (arith, e, small)),
     ) refl
 
-not_concealed : (b : ℕ) → is_verbatim b ≡ true → is_concealed b ≡ false
+not_concealed : (b : ℕ) → is_printable b ≡ true → is_concealed b ≡ false
 not_concealed b h = rw (not_control b h, not_unseen b (low b h), not_blank b (low b h)) refl
 
-plain_byte : (b : ℕ) → is_verbatim b ≡ true → plain b ≡ b
+pub plain_byte : (b : ℕ) → is_printable b ≡ true → plain b ≡ b
 plain_byte b h = rw (not_concealed b h) refl
 
 parted_byte : (after_sign : Bool) (b : ℕ) → is_verbatim b ≡ true → parted after_sign b ≡ b ∷ []
@@ -64,20 +67,26 @@ parted_byte false b h = refl
 
 -- ---- all bytes of a string
 
-encodes_whole : (bs : List ℕ) → list_all is_verbatim bs ≡ true → encode_utf8_all bs ≡ bs
+printables : (bs : List ℕ) → list_all is_verbatim bs ≡ true → list_all is_printable bs ≡ true
+printables [] h = refl
+printables (b ∷ bs) h =
+    let parts = and_parts (is_verbatim b) (list_all is_verbatim bs) h in
+    rw (printable b parts.0) (printables bs parts.1)
+
+encodes_whole : (bs : List ℕ) → list_all is_printable bs ≡ true → encode_utf8_all bs ≡ bs
 encodes_whole [] h = refl
 encodes_whole (b ∷ bs) h =
-    let parts = and_parts (is_verbatim b) (list_all is_verbatim bs) h in
+    let parts = and_parts (is_printable b) (list_all is_printable bs) h in
     rw (encode_ascii b (low b parts.0)) (ap (λ t. b ∷ t) (encodes_whole bs parts.1))
 
 chars_whole : (bs : List ℕ) → list_all is_verbatim bs ≡ true → chars bs ≡ bs
-chars_whole bs h = ap chars (sym (encodes_whole bs h)) ∙ chars_back bs
+chars_whole bs h = ap chars (sym (encodes_whole bs (printables bs h))) ∙ chars_back bs
 
 plain_whole : (bs : List ℕ) → list_all is_verbatim bs ≡ true → map plain bs ≡ bs
 plain_whole [] h = refl
 plain_whole (b ∷ bs) h =
     let parts = and_parts (is_verbatim b) (list_all is_verbatim bs) h in
-    rw (plain_byte b parts.0) (ap (λ t. b ∷ t) (plain_whole bs parts.1))
+    rw (plain_byte b (printable b parts.0)) (ap (λ t. b ∷ t) (plain_whole bs parts.1))
 
 -- after a character that is not `#`
 parted_behind : (bs rest : List ℕ) → list_all is_verbatim bs ≡ true → parted_signs false (bs ++ rest) ≡ bs ++ parted_signs false rest
@@ -100,6 +109,20 @@ kept_whole (b ∷ bs) rest room left e =
     ap (λ n. kept n (b ∷ (bs ++ rest))) more ∙ kept-cons (length bs + left) b (bs ++ rest)
     ∙ ap (λ t. b ∷ t) (kept_whole bs rest (length bs + left) left refl)
 
+-- ---- a printable string is kept
+
+pub keeps_whole : (old new : ShownText) (bs : List ℕ) → list_all is_printable bs ≡ true → length bs ≤ old.room → old.full ≡ false
+    → string_bytes new.text ≡ string_bytes old.text ++ bs → new.room ≡ old.room - length bs → new.full ≡ false
+    → KeepsAll old new bs
+keeps_whole old new bs h within going text room full = λ rest.
+    let left : ℕ = old.room - length bs in
+    let e : old.room ≡ length bs + left = omega (arith, within) in
+    let after : List ℕ = encode_utf8_all (kept left rest) in
+    rw (going, full, text, room)
+    (ap (λ t. string_bytes old.text ++ t)
+    (ap encode_utf8_all (kept_whole bs rest old.room left e) ∙ encodes-append bs (kept left rest) ∙ ap (λ t. t ++ after) (encodes_whole bs h))
+    ∙ sym (append_assoc (string_bytes old.text) bs after))
+
 -- ---- the string is read
 
 steps_whole : (bs rest : List ℕ) (after_sign : Bool) (room left : ℕ) → 0 < length bs → list_all is_verbatim bs ≡ true → room ≡ length bs + left
@@ -112,7 +135,7 @@ steps_whole bs rest after_sign room left some h e =
     ∙ ap (λ t. encode_utf8_all (kept room t)) (parted_whole after_sign bs (map plain rest) some h)
     ∙ ap encode_utf8_all (kept_whole bs (parted_signs false (map plain rest)) room left e)
     ∙ encodes-append bs (kept left (parted_signs false (map plain rest)))
-    ∙ ap (λ t. t ++ encode_utf8_all (kept left (parted_signs false (map plain rest)))) (encodes_whole bs h)
+    ∙ ap (λ t. t ++ encode_utf8_all (kept left (parted_signs false (map plain rest)))) (encodes_whole bs (printables bs h))
 
 pub takes_whole : (old new : ShownText) (bs : List ℕ) → 0 < length bs → list_all is_verbatim bs ≡ true → length bs ≤ old.room → old.full ≡ false
     → string_bytes new.text ≡ string_bytes old.text ++ bs → new.room ≡ old.room - length bs → new.full ≡ false → new.after_sign ≡ false

@@ -1,15 +1,16 @@
 //! The lines of the code of a result, made safe to show.
-ghost use Rattle.std.specs.Prelude.{◌≡◌, ◌<◌, ◌≤◌, ◌+◌, ◌-◌, ◌^◌, drop, length, map, replicate, take, option_map, option_and_then, IfOk, OnOk};
-ghost use Rattle.std.specs.List.{prefix_len, suffix_len};
+ghost use Rattle.std.specs.Prelude.{◌≡◌, ◌<◌, ◌≤◌, ◌+◌, ◌-◌, ◌++◌, ◌^◌, drop, length, map, replicate, take, true, option_map, option_and_then, IfOk, OnOk};
+ghost use Rattle.std.specs.List.{list_all, prefix_len, suffix_len};
 ghost use Rattle.sarif_findings.specs.Code as said;
 ghost use Rattle.sarif_findings.specs.Code.{is_space, spread_line};
 ghost use Rattle.sarif_findings.specs.Internal.CodeParts as parts;
-ghost use Rattle.sarif_findings.specs.Internal.CodeParts.{excerpt_of, KeepsAll};
+ghost use Rattle.sarif_findings.specs.Internal.CodeParts.{excerpt_of};
+ghost use Rattle.sarif_findings.specs.Internal.ShownSoFar.{is_printable, KeepsAll};
 
 use crate::code::Code;
 use crate::code_excerpt::Excerpt;
 use crate::code_indented::Indented;
-use crate::shown_text::{ShownText, plain};
+use crate::shown_text::{ShownText, all_printable, plain};
 use sarif_model::{Sequence, Text};
 use std::alloc::{AllocError, Global};
 
@@ -137,8 +138,22 @@ fn push_spread(text: &mut ShownText, c: char) -> Result<(), AllocError>
     Ok(())
 }
 
-/// Adds the characters of a line.
-fn push_line(text: &mut ShownText, line: &str) -> Result<(), AllocError>
+/// Returns the first characters of a line, as many as there is room for, if all of these are printable, otherwise none;
+/// and the rest.
+fn split_line<'l>(text: &ShownText, line: &'l str) -> (&'l str, &'l str)
+    ensures all { line.now ≡ result.0.now ++ result.1.now }
+    ensures printable { list_all is_printable result.0.now ≡ true }
+    ensures room { length result.0.now ≤ text.now.room }
+{
+    let end = line.len().min(text.room());
+    match line.split_at_checked(end) {
+        Some((first, rest)) if all_printable(first.as_bytes()) => (first, rest),
+        _ => ("", line),
+    }
+}
+
+/// Adds the characters of a line, one by one.
+fn push_each(text: &mut ShownText, line: &str) -> Result<(), AllocError>
     ensures { OnOk result (KeepsAll text.old text.new (spread_line line.now)) }
 {
     for c in line.chars() {
@@ -147,6 +162,16 @@ fn push_line(text: &mut ShownText, line: &str) -> Result<(), AllocError>
         }
         push_spread(text, c)?;
     }
+    Ok(())
+}
+
+/// Adds the characters of a line: the first as one string if all of these are printable.
+fn push_line(text: &mut ShownText, line: &str) -> Result<(), AllocError>
+    ensures { OnOk result (KeepsAll text.old text.new (spread_line line.now)) }
+{
+    let (first, rest) = split_line(text, line);
+    text.keep_whole(first)?;
+    push_each(text, rest)?;
     Ok(())
 }
 

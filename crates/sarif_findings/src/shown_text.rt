@@ -85,6 +85,24 @@ fn all_verbatim(bytes: &[u8]) -> bool
     all
 }
 
+/// Returns whether a byte is a character that is seen, or a space. A code shows it unchanged.
+fn is_printable(byte: u8) -> bool
+    ensures { result ≡ so_far.is_printable byte }
+{
+    matches!(byte, b' '..=b'~')
+}
+
+/// Returns whether each of these bytes is such a character. It doesn't end early either.
+pub(crate) fn all_printable(bytes: &[u8]) -> bool
+    ensures { result ≡ list_all so_far.is_printable bytes.now }
+{
+    let mut all = true;
+    for byte in bytes {
+        all &= is_printable(*byte);
+    }
+    all
+}
+
 /// A partly shown string. It reads characters and stores only what it keeps.
 #[derive(Drop)]
 pub(crate) struct ShownText {
@@ -98,7 +116,7 @@ impl ShownText {
     ghost use Rattle.std.specs.Prelude.{◌<◌, ◌≤◌, length, map};
     ghost use Rattle.std.specs.Bool.{OnTrue};
     ghost use Rattle.std.specs.List.{list_all};
-    ghost use Rattle.sarif_findings.specs.Internal.ShownSoFar.{kept_with, shown_with, is_verbatim, TakesCharacters, Keeps, SeparatesCharacter};
+    ghost use Rattle.sarif_findings.specs.Internal.ShownSoFar.{kept_with, shown_with, is_printable, is_verbatim, TakesCharacters, Keeps, KeepsAll, SeparatesCharacter};
 
     pub(crate) fn new(alloc: Global) -> Result<ShownText, AllocError>
         ensures { IfOk result (λ made. (cs : List ℕ) → shown_with made cs ≡ said.shown cs) }
@@ -143,6 +161,27 @@ impl ShownText {
         }
         self.text.push(c)?;
         self.room -= 1;
+        Ok(())
+    }
+
+    /// Returns how many further characters there is room for.
+    pub(crate) fn room(&self) -> usize
+        ensures { result ≡ self.now.room }
+    {
+        self.room as usize
+    }
+
+    /// Keeps a printable string that there is room for, unless the shown string has ended.
+    pub(crate) fn keep_whole(&mut self, text: &str) -> Result<(), AllocError>
+        requires printable { list_all is_printable text.now ≡ true }
+        requires room { length text.now ≤ self.old.room }
+        ensures { OnOk result (KeepsAll self.old self.new text.now) }
+    {
+        if self.full {
+            return Ok(());
+        }
+        self.text.push_str(text)?;
+        self.room = (self.room as usize - text.len()) as u32;
         Ok(())
     }
 

@@ -1,11 +1,9 @@
 -- Lines of a snippet while the code of a result is made from them.
-use Rattle.std.specs.Prelude.{◌≡◌, ℕ, ◌-◌, min, List, [], ◌++◌, fold, map, replicate, Option, Some, None, encode_utf8_all, if◌then◌else◌}
+use Rattle.std.specs.Prelude.{ℕ, ◌-◌, min, List, [], ◌++◌, fold, map, replicate, Option, Some, None, encode_utf8_all, if◌then◌else◌}
 use Rattle.sarif_findings.specs.declared.code.Code.{Code}
 use Rattle.sarif_findings.specs.declared.code_excerpt.Excerpt.{Excerpt}
 use Rattle.sarif_findings.specs.declared.code_indented.Indented.{Indented}
-use Rattle.sarif_findings.specs.declared.shown_text.ShownText.{ShownText}
 use Rattle.sarif_findings.specs.Code.{least, most_of_line, spread_line}
-use Rattle.sarif_findings.specs.Internal.ShownSoFar.{kept_with}
 use Rattle.sarif_findings.specs.Shown.{kept}
 
 -- the lines of an excerpt
@@ -37,7 +35,3 @@ lesser (Some least) n = min least n
 abbrev pub least_with : Option ℕ → List ℕ → ℕ
 least_with None ns = least ns
 least_with (Some first) ns = fold min first ns
-
--- these characters were kept as they are, and others may follow
-abbrev pub KeepsAll : ShownText → ShownText → List ℕ → Type 0
-KeepsAll old new cs = (rest : List ℕ) → kept_with old (cs ++ rest) ≡ kept_with new rest

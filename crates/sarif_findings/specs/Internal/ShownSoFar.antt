@@ -5,6 +5,10 @@ use Rattle.sarif_findings.specs.declared.shown_text.ShownText.{ShownText}
 use Rattle.sarif_findings.specs.Placeholders.{filled_from}
 use Rattle.sarif_findings.specs.Shown.{is_between, kept, parted, parted_signs, plain}
 
+-- whether a byte is a character that is seen, or a space
+abbrev pub is_printable : ℕ → Bool
+is_printable b = is_between 32 126 b
+
 -- whether a byte is a character that is shown unchanged, regardless of its neighbours
 abbrev pub is_verbatim : ℕ → Bool
 is_verbatim b = is_between 32 126 b && not (b == 35)
@@ -28,6 +32,10 @@ kept_with so_far cs =
 -- one such character was kept, or ended the text
 abbrev pub Keeps : ShownText → ShownText → ℕ → List ℕ → Type 0
 Keeps old new c cs = kept_with old (c ∷ cs) ≡ kept_with new cs
+
+-- these characters were kept as they are, and others may follow
+abbrev pub KeepsAll : ShownText → ShownText → List ℕ → Type 0
+KeepsAll old new cs = (rest : List ℕ) → kept_with old (cs ++ rest) ≡ kept_with new rest
 
 -- a space was kept where one belongs before the character
 abbrev pub SeparatesCharacter : ShownText → ShownText → ℕ → List ℕ → Type 0

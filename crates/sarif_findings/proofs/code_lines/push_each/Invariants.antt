@@ -2,7 +2,7 @@ use Rattle.std.proofs.Common.{◌≡◌, ℕ, List, ◌++◌, IsUtf8}
 use Rattle.std.specs.Str.Iter.{chars_rest}
 use Rattle.sarif_findings.specs.Code.{spread_line}
 use Rattle.sarif_findings.specs.Internal.ShownSoFar.{kept_with}
-use Rattle.sarif_findings.proofs.code_lines.push_line.Given as goal
+use Rattle.sarif_findings.proofs.code_lines.push_each.Given as goal
 
 abbrev pub invariant-loop-c : goal.invariant-loop-c
 invariant-loop-c l =
