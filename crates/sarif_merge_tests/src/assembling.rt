@@ -2,10 +2,10 @@
 ghost use Rattle.std.specs.Prelude.{◌≡◌, []};
 
 use sarif_counts::Verdict;
-use sarif_log::{Merged, assemble};
+use sarif_log::{Merged, Prepared, assemble};
 use sarif_model::{Level, MergeFault, State};
 use sarif_options::{Checks, Options, Policy};
-use sarif_prepare::{Asked, FileRead, prepare};
+use sarif_prepare::{Asked, FileRead, prepare, prepare_by, prepare_once};
 use sarif_results::Judged;
 use sarif_suppress::Suppressions;
 use std::alloc::Global;
@@ -22,6 +22,23 @@ const LOG: &str = "{\"properties\":{\"gate\":{\"counts\":{\
 \"states\":[\"new\",\"updated\"],\"unusedSuppressions\":0,\"verdict\":\"pass\"}},\
 \"runs\":[],\"version\":\"2.1.0\"}";
 
+const LOG_WITHOUT_COPIES: &str = "{\"properties\":{\"gate\":{\"copies\":[],\"counts\":{\
+\"absent\":{\"active\":[0,0,0,0],\"suppressed\":[0,0,0,0]},\
+\"new\":{\"active\":[0,0,0,0],\"suppressed\":[0,0,0,0]},\
+\"unchanged\":{\"active\":[0,0,0,0],\"suppressed\":[0,0,0,0]},\
+\"updated\":{\"active\":[0,0,0,0],\"suppressed\":[0,0,0,0]}},\
+\"failOn\":\"error\",\"hits\":0,\"max\":0,\"runsWithoutResults\":0,\
+\"states\":[\"new\",\"updated\"],\"unusedSuppressions\":0,\"verdict\":\"pass\"}},\
+\"runs\":[],\"version\":\"2.1.0\"}";
+
+/// Which function prepares a merge.
+#[derive(Clone, Copy)]
+enum Way {
+    Counted,
+    Once,
+    AsAsked,
+}
+
 fn no_runs<'t, 'a>(alloc: Global) -> Judged<'t, 'a>
     ensures runs { result.runs.items ≡ [] }
     ensures outcomes { result.outcomes.items ≡ [] }
@@ -32,12 +49,13 @@ fn no_runs<'t, 'a>(alloc: Global) -> Judged<'t, 'a>
     }
 }
 
-fn merge_nothing<R: Threads + Sync>(
+fn prepare_nothing<R: Threads + Sync>(
     rt: &R,
     alloc: Global,
     file: &Suppressions,
     options: &Options,
-) -> Result<Merged, MergeFault>
+    way: Way,
+) -> Result<Prepared, MergeFault>
     requires { file.now.entries ≡ [] }
 {
     let rules = FileRead { file, bytes: None };
@@ -46,18 +64,25 @@ fn merge_nothing<R: Threads + Sync>(
         reporting: None,
         upkeep: None,
     };
-    let prepared = prepare(rt, alloc, no_runs(alloc), no_runs(alloc), &rules, &asked)?;
-    let (merged, ()) = assemble(rt, alloc, prepared, options, (), |_| Ok(()))?;
-    Ok(merged)
+    let now = no_runs(alloc);
+    let before = no_runs(alloc);
+    match way {
+        Way::Counted => prepare(rt, alloc, now, before, &rules, &asked),
+        Way::Once => prepare_once(rt, alloc, now, before, &rules, &asked),
+        Way::AsAsked => prepare_by(rt, alloc, now, before, &rules, &asked),
+    }
 }
 
-fn merge_without_file<R: Threads + Sync>(
+fn merge_nothing<R: Threads + Sync>(
     rt: &R,
     alloc: Global,
     options: &Options,
+    way: Way,
 ) -> Result<Merged, MergeFault> {
     let file = Suppressions::none(alloc, options.seed, None)?;
-    merge_nothing(rt, alloc, &file, options)
+    let prepared = prepare_nothing(rt, alloc, &file, options, way)?;
+    let (merged, ()) = assemble(rt, alloc, prepared, options, (), |_| Ok(()))?;
+    Ok(merged)
 }
 
 #[test]
@@ -69,12 +94,34 @@ fn without_runs_the_log_holds_its_gate(rt: HostRuntime) -> Result<(), Fail> {
         workers: 1,
         seed: RandomState::new(&rt)?,
     };
-    let merged = merge_without_file(&rt, rt.alloc(), &options)?;
-    assert_eq!(rt; merged.log.as_str(), LOG);
-    assert!(rt; merged.verdict == Verdict::Pass);
-    assert_eq!(rt; merged.counts.get(State::New, Level::Error, false), 0);
-    assert_eq!(rt; merged.without, 0);
-    assert_eq!(rt; merged.unused, 0);
-    assert_eq!(rt; merged.expired, 0);
+    for way in [Way::Counted, Way::AsAsked] {
+        let merged = merge_nothing(&rt, rt.alloc(), &options, way)?;
+        assert_eq!(rt; merged.log.as_str(), LOG);
+        assert!(rt; merged.verdict == Verdict::Pass);
+        assert_eq!(rt; merged.counts.get(State::New, Level::Error, false), 0);
+        assert_eq!(rt; merged.without, 0);
+        assert_eq!(rt; merged.unused, 0);
+        assert_eq!(rt; merged.expired, 0);
+        assert_eq!(rt; merged.copies, None);
+    }
+    Ok(())
+}
+
+#[test]
+fn without_runs_the_gate_names_no_copies(rt: HostRuntime) -> Result<(), Fail> {
+    let mut checks = Checks::new(rt.alloc());
+    checks.once = true;
+    let options = Options {
+        policy: Policy::default(),
+        checks,
+        today: None,
+        workers: 1,
+        seed: RandomState::new(&rt)?,
+    };
+    for way in [Way::Once, Way::AsAsked] {
+        let merged = merge_nothing(&rt, rt.alloc(), &options, way)?;
+        assert_eq!(rt; merged.log.as_str(), LOG_WITHOUT_COPIES);
+        assert_eq!(rt; merged.copies, Some(0));
+    }
     Ok(())
 }

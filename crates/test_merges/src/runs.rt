@@ -20,6 +20,41 @@ fn result_named(name: &str) -> Option<&'static str> {
             r#"{"baselineState":"absent","level":"warning","message":{"text":"m"},"#,
             r#""ruleId":"R1","suppressions":[]}"#
         )),
+        _ => result_at_line(name),
+    }
+}
+
+/// The JSON of a result with a region: H is at line 314 of `h.c`, and B at line 1 of `b.c`.
+fn result_at_line(name: &str) -> Option<&'static str> {
+    match name {
+        "H" => Some(concat!(
+            r#"{"locations":[{"physicalLocation":{"artifactLocation":{"uri":"h.c"},"#,
+            r#""region":{"startLine":314}}}],"message":{"text":"m"}}"#
+        )),
+        "B" => Some(concat!(
+            r#"{"locations":[{"physicalLocation":{"artifactLocation":{"uri":"b.c"},"#,
+            r#""region":{"startLine":1}}}],"message":{"text":"m"}}"#
+        )),
+        "H_NEW" => Some(concat!(
+            r#"{"baselineState":"new","level":"warning","locations":[{"physicalLocation":{"#,
+            r#""artifactLocation":{"uri":"h.c"},"region":{"startLine":314}}}],"#,
+            r#""message":{"text":"m"},"suppressions":[]}"#
+        )),
+        "H_UNCHANGED" => Some(concat!(
+            r#"{"baselineState":"unchanged","level":"warning","locations":[{"physicalLocation":{"#,
+            r#""artifactLocation":{"uri":"h.c"},"region":{"startLine":314}}}],"#,
+            r#""message":{"text":"m"},"suppressions":[]}"#
+        )),
+        "H_ABSENT" => Some(concat!(
+            r#"{"baselineState":"absent","level":"warning","locations":[{"physicalLocation":{"#,
+            r#""artifactLocation":{"uri":"h.c"},"region":{"startLine":314}}}],"#,
+            r#""message":{"text":"m"},"suppressions":[]}"#
+        )),
+        "B_NEW" => Some(concat!(
+            r#"{"baselineState":"new","level":"warning","locations":[{"physicalLocation":{"#,
+            r#""artifactLocation":{"uri":"b.c"},"region":{"startLine":1}}}],"#,
+            r#""message":{"text":"m"},"suppressions":[]}"#
+        )),
         _ => None,
     }
 }

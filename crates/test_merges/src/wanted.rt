@@ -5,6 +5,8 @@ use std::alloc::{AllocError, Global};
 /// results that are suppressed. Each string has the numbers of errors, warnings, notes and results of no level.
 #[derive(Clone, Copy)]
 pub struct ExpectedCounts {
+    /// The places of the copies as JSON, if copies aren't counted.
+    pub copies: Option<&'static str>,
     /// The active results that are absent.
     pub absent: &'static str,
     /// The active ones that are new.
@@ -23,6 +25,7 @@ pub struct ExpectedCounts {
 
 /// No results at all.
 pub const NOTHING: ExpectedCounts = ExpectedCounts {
+    copies: None,
     absent: "0,0,0,0",
     new: "0,0,0,0",
     suppressed: "0,0,0,0",
@@ -32,9 +35,18 @@ pub const NOTHING: ExpectedCounts = ExpectedCounts {
     unused: 0,
 };
 
+/// The member of the gate that names the copies, if copies aren't counted.
+fn copies_member(alloc: Global, copies: Option<&'static str>) -> Result<String, AllocError> {
+    match copies {
+        Some(places) => format!(in alloc; "\"copies\":{places},"),
+        None => Ok(String::new(alloc)),
+    }
+}
+
 /// The expected log with these runs, which are JSON.
 pub fn text_of(alloc: Global, wanted: ExpectedCounts, runs: &str) -> Result<String, AllocError> {
     let ExpectedCounts {
+        copies,
         absent,
         new,
         suppressed,
@@ -43,8 +55,9 @@ pub fn text_of(alloc: Global, wanted: ExpectedCounts, runs: &str) -> Result<Stri
         without,
         unused,
     } = wanted;
+    let copies = copies_member(alloc, copies)?;
     format!(in alloc;
-        "{{\"properties\":{{\"gate\":{{\"counts\":{{\
+        "{{\"properties\":{{\"gate\":{{{copies}\"counts\":{{\
         \"absent\":{{\"active\":[{absent}],\"suppressed\":[0,0,0,0]}},\
         \"new\":{{\"active\":[{new}],\"suppressed\":[{suppressed}]}},\
         \"unchanged\":{{\"active\":[{unchanged}],\"suppressed\":[0,0,0,0]}},\
