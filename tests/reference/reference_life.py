@@ -91,7 +91,8 @@ def conditions(record, version):
 
 def entry_for(record, version, reason=None, until=None):
     own = {"tool": record.tool, "ruleId": record.rule, "justification": reason, "expires": until}
-    return there({**own, **conditions(record, version), "snippet": record.snippet})
+    snippet = record.snippet if version == 3 else None
+    return there({**own, **conditions(record, version), "snippet": snippet})
 
 
 class Renewed:
