@@ -6,7 +6,7 @@ use Rattle.std.proofs.lemmas.List.Folds.{list_any-append}
 use Rattle.sarif_model.specs.declared.merge_fault.Source.{Source}
 use Rattle.sarif_model.specs.declared.merge_fault.Source.TheVariants.{Baseline, Log}
 use Rattle.sarif_model.specs.declared.record.Record.{Record}
-use Rattle.sarif_match.specs.declared.version.MatchingVersion.{MatchingVersion}
+use Rattle.sarif_evidence.specs.declared.version.MatchingVersion.{MatchingVersion}
 use Rattle.sarif_match.specs.Partners.{partners_in}
 use Rattle.sarif_match_laws.specs.ByTool.{HaveNoToolInCommon}
 use Rattle.sarif_match_laws.proofs.ByTool.{matched_apart}

@@ -1,7 +1,7 @@
 -- Two merges with the same suppression file, date and requirements, and the merge of the inputs of both.
 use Rattle.std.specs.Prelude.{◌≡◌, ◌&&◌, ◌++◌, ℕ, List, [], length}
 use Rattle.sarif_model.specs.declared.record.Record.{Record}
-use Rattle.sarif_match.specs.declared.version.MatchingVersion.{MatchingVersion}
+use Rattle.sarif_evidence.specs.declared.version.MatchingVersion.{MatchingVersion}
 use Rattle.sarif_match.specs.Partners.{partners_in}
 use Rattle.sarif_match_laws.specs.ByTool.{IsMatchedApart, moved}
 use Rattle.sarif_entries.specs.declared.entry.Entry.{Entry}

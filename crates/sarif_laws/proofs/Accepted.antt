@@ -13,11 +13,11 @@ use Rattle.sarif_options.specs.declared.policy.Policy.{Policy}
 use Rattle.sarif_options.specs.declared.upkeep.Renewal.{Renewal}
 use Rattle.sarif_counts.specs.CountOf.{count_of}
 use Rattle.sarif_counts.specs.Hits.{hits_of}
-use Rattle.sarif_match.specs.declared.version.MatchingVersion.{MatchingVersion}
-use Rattle.sarif_match.specs.declared.version.MatchingVersion.TheVariants.{Two, Three}
-use Rattle.sarif_match.specs.Evidence.{has_evidence, state_in}
-use Rattle.sarif_match.specs.Seen.{seen}
-use Rattle.sarif_match.specs.State.{is_unchanged}
+use Rattle.sarif_evidence.specs.declared.version.MatchingVersion.{MatchingVersion}
+use Rattle.sarif_evidence.specs.declared.version.MatchingVersion.TheVariants.{Two, Three}
+use Rattle.sarif_evidence.specs.Evidence.{has_evidence, state_in}
+use Rattle.sarif_evidence.specs.Seen.{seen}
+use Rattle.sarif_evidence.specs.State.{is_unchanged}
 use Rattle.sarif_model.specs.declared.kinds.State.TheVariants.{Unchanged, Updated}
 use Rattle.sarif_runs.specs.Judging.{records_of, run_values}
 use Rattle.sarif_runs.specs.Record.{record_of}
@@ -32,7 +32,7 @@ use Rattle.sarif_merge.proofs.OwnResult.{own_result, results_same, runs_same}
 use Rattle.sarif_upkeep.specs.Renewed.{how_of, renewal_faults}
 use Rattle.sarif_accept.specs.Adding.{may_hit}
 use Rattle.sarif_accept.specs.Until.{IsDated, IsUntil}
-use Rattle.sarif_accept.proofs.After.{hits_after, list_begins, still_suppressed}
+use Rattle.sarif_accept_laws.proofs.After.{hits_after, list_begins, still_suppressed}
 use Rattle.sarif_laws.specs.Accepting.{IsLeft, LeavesWhatStays}
 use Rattle.sarif_laws.specs.Hits.{is_hit_in, stays_in}
 use Rattle.sarif_laws.specs.NextMerge.{IsNewFileOf, absent_written, merged_result, merged_run_at, with_file}

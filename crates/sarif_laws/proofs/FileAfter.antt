@@ -3,9 +3,9 @@ use Rattle.std.proofs.Common.{◌≡◌, ℕ, ◌≤◌, ◌++◌, Bool, true, f
 use Rattle.std.specs.Prelude.{nat_lt}
 use Rattle.std.specs.List.{AllByRecursion, list_any}
 use Rattle.std.proofs.lemmas.Bool.{ltb-false}
-use Rattle.sarif_match.specs.Seen.{as_matched}
-use Rattle.sarif_match.specs.declared.version.MatchingVersion.{MatchingVersion}
-use Rattle.sarif_match.specs.declared.version.MatchingVersion.TheVariants.{Two, Three}
+use Rattle.sarif_evidence.specs.Seen.{as_matched}
+use Rattle.sarif_evidence.specs.declared.version.MatchingVersion.{MatchingVersion}
+use Rattle.sarif_evidence.specs.declared.version.MatchingVersion.TheVariants.{Two, Three}
 use Rattle.sarif_model.specs.declared.kinds.State.{State}
 use Rattle.sarif_model.specs.declared.merge_fault.MergeFault.{MergeFault}
 use Rattle.sarif_model.specs.declared.merge_fault.Source.TheVariants.{Log, Baseline}
@@ -28,8 +28,8 @@ use Rattle.sarif_merge.specs.OwnResult.{baseline_of}
 use Rattle.sarif_upkeep.specs.Renewed.{entries_count, how_of, renewal_faults}
 use Rattle.sarif_accept.specs.Adding.{MayBeHit, accepted_among, file_after, is_hit, is_said, may_hit, once_each, stays}
 use Rattle.sarif_accept.specs.Until.{HasGuid, IsDated}
-use Rattle.sarif_accept.proofs.GivenFile.{today_given}
-use Rattle.sarif_accept.proofs.NewFileRead.{new_file_read}
+use Rattle.sarif_accept_laws.proofs.GivenFile.{today_given}
+use Rattle.sarif_accept_laws.proofs.NewFileRead.{new_file_read}
 use Rattle.sarif_laws.specs.NextMerge.{IsNewFileOf, with_file}
 use Rattle.sarif_laws.proofs.Read.{guids_fit}
 

@@ -15,8 +15,8 @@ use Rattle.sarif_entries.specs.Matching.{is_empty}
 use Rattle.sarif_runs.specs.Judging.{faults_of_runs, items_of, records_in, records_of, run_faults, run_values, skips}
 use Rattle.sarif_runs.specs.Placed.{Placed}
 use Rattle.sarif_results.proofs.JudgedCounts.{no_faults_here, no_faults_left, records_of_baseline, records_of_log}
-use Rattle.sarif_match.specs.declared.version.MatchingVersion.{MatchingVersion}
-use Rattle.sarif_match.specs.declared.version.MatchingVersion.TheVariants.{Two, Three}
+use Rattle.sarif_evidence.specs.declared.version.MatchingVersion.{MatchingVersion}
+use Rattle.sarif_evidence.specs.declared.version.MatchingVersion.TheVariants.{Two, Three}
 use Rattle.sarif_runs.specs.declared.run_options.RecordOptions.{RecordOptions}
 use Rattle.sarif_known.specs.Chosen.{Chosen, results_among}
 use Rattle.sarif_known.specs.Laws.{IsOfTool}

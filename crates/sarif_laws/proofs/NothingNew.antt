@@ -21,8 +21,8 @@ use Rattle.sarif_counts.specs.CountOf.{count_of}
 use Rattle.sarif_counts.specs.Hits.{hits_of}
 use Rattle.sarif_entries.specs.File.{File}
 use Rattle.sarif_findings.specs.Reported.{is_active, level_in, state_in}
-use Rattle.sarif_match.specs.Evidence.{state_in as matched_state}
-use Rattle.sarif_match.proofs.StateLemmas.{equal_is_unchanged}
+use Rattle.sarif_evidence.specs.Evidence.{state_in as matched_state}
+use Rattle.sarif_evidence.proofs.StateLemmas.{equal_is_unchanged}
 use Rattle.sarif_runs.specs.Judging.{run_values}
 use Rattle.sarif_runs.specs.Record.{record_of}
 use Rattle.sarif_results.specs.Annotated.{own_suppressions}

@@ -33,7 +33,7 @@ use Rattle.sarif_upkeep.specs.Renewed.{how_of, kept_in, renewal_faults, rules_af
 use Rattle.sarif_accept.specs.Adding.{How, may_hit}
 use Rattle.sarif_accept.specs.Keeping.{is_kept}
 use Rattle.sarif_accept.specs.NewFile.{entries_after, file_object, new_file}
-use Rattle.sarif_accept.proofs.After.{same_list, unused_stays}
+use Rattle.sarif_accept_laws.proofs.After.{same_list, unused_stays}
 use Rattle.sarif_laws.specs.NextMerge.{IsNewFileOf, absent_written, with_file}
 use Rattle.sarif_laws.specs.Pruning.{ChangesNoResult}
 use Rattle.sarif_laws.proofs.FileAfter.{faultless_later, later_file, later_is, same_today}

@@ -3,11 +3,11 @@ use Rattle.std.proofs.Common.{◌≡◌, ℕ, ◌+◌, List, [], ◌∷◌, map,
 use Rattle.std.specs.List.{range_with_len}
 use Rattle.std.proofs.lemmas.List.{length-map}
 use Rattle.sarif_model.specs.declared.record.Record.{Record}
-use Rattle.sarif_match.specs.declared.version.MatchingVersion.{MatchingVersion}
+use Rattle.sarif_evidence.specs.declared.version.MatchingVersion.{MatchingVersion}
 use Rattle.sarif_match.specs.Partners.{is_taken, partners_in}
 use Rattle.sarif_runs.specs.Judging.{run_values}
 use Rattle.sarif_known.specs.Laws.{AreAlike, without_own}
-use Rattle.sarif_known.proofs.SamePartners.{same_partners, same_states}
+use Rattle.sarif_known_laws.proofs.SamePartners.{same_partners, same_states}
 use Rattle.sarif_inputs.specs.Inputs.{Inputs, input_runs}
 use Rattle.sarif_log.specs.LogBy.{listing_of, states_from, states_of, taken_of}
 use Rattle.sarif_log.specs.MergedRuns.{merged_runs}

@@ -12,7 +12,7 @@ use Rattle.sarif_counts.specs.declared.gate_verdict.Verdict.TheVariants.{Fail, P
 use Rattle.sarif_counts.specs.CountOf.{count_of}
 use Rattle.sarif_counts.proofs.CountAppend.{count_of-append}
 use Rattle.sarif_findings.proofs.HitsCounted.{hits_add, hits_same}
-use Rattle.sarif_match.specs.declared.version.MatchingVersion.{MatchingVersion}
+use Rattle.sarif_evidence.specs.declared.version.MatchingVersion.{MatchingVersion}
 use Rattle.sarif_match_laws.specs.ByTool.{HaveNoToolInCommon}
 use Rattle.sarif_runs.specs.Judging.{run_values}
 use Rattle.sarif_results.specs.Drafts.{Listing}

@@ -18,7 +18,7 @@ use Rattle.sarif_counts.specs.Gate.{gate_of}
 use Rattle.sarif_counts.specs.Hits.{Count}
 use Rattle.sarif_options.specs.declared.policy.Policy.{Policy}
 use Rattle.sarif_read.proofs.Beside.{member_beside}
-use Rattle.sarif_match.specs.declared.version.MatchingVersion.{MatchingVersion}
+use Rattle.sarif_evidence.specs.declared.version.MatchingVersion.{MatchingVersion}
 use Rattle.sarif_entries.specs.File.{File}
 use Rattle.sarif_suppress.specs.Suppressing.{unused_of}
 use Rattle.sarif_results.specs.Drafts.{Listing}

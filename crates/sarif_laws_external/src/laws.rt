@@ -5,7 +5,7 @@ ghost use Rattle.sarif_model.specs.Run.{results_array};
 ghost use Rattle.sarif_options.specs.declared.policy.Policy.{Policy};
 ghost use Rattle.sarif_counts.specs.CountOf.{count_of};
 ghost use Rattle.sarif_counts.specs.Hits.{verdict_of};
-ghost use Rattle.sarif_match.specs.declared.version.MatchingVersion.{MatchingVersion};
+ghost use Rattle.sarif_evidence.specs.declared.version.MatchingVersion.{MatchingVersion};
 ghost use Rattle.sarif_match.specs.Partners.{partners_in};
 ghost use Rattle.sarif_entries.specs.File.{File};
 ghost use Rattle.sarif_suppress.specs.Suppressing.{is_suppressed, matching_numbers};

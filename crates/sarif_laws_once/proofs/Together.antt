@@ -10,7 +10,7 @@ use Rattle.sarif_entries.specs.File.{File}
 use Rattle.sarif_entries.specs.Given.{file_or_none}
 use Rattle.sarif_copies.specs.Copies.{copies_of}
 use Rattle.sarif_counts.specs.CountOf.{count_of}
-use Rattle.sarif_match.specs.declared.version.MatchingVersion.{MatchingVersion}
+use Rattle.sarif_evidence.specs.declared.version.MatchingVersion.{MatchingVersion}
 use Rattle.sarif_read.specs.Unmarked.{unmarked}
 use Rattle.sarif_runs.specs.Judging.{faults_of_runs, records_of, run_faults, run_values, skips}
 use Rattle.sarif_runs.specs.Placed.{Placed}

@@ -16,7 +16,7 @@ use Rattle.sarif_model.proofs.Elements.{items_back}
 use Rattle.sarif_entries.specs.File.{File}
 use Rattle.sarif_counts.specs.CountOf.{count_of}
 use Rattle.sarif_counts.proofs.CountAppend.{count_of-append}
-use Rattle.sarif_match.specs.declared.version.MatchingVersion.{MatchingVersion}
+use Rattle.sarif_evidence.specs.declared.version.MatchingVersion.{MatchingVersion}
 use Rattle.sarif_match.specs.Partners.{partners_in}
 use Rattle.sarif_runs.specs.Judging.{faults_of_runs, records_of, run_values, skips}
 use Rattle.sarif_runs.specs.Placed.{Placed}

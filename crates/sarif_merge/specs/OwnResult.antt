@@ -3,7 +3,7 @@ use Rattle.std.specs.Prelude.{ℕ, ◌+◌, ◌<◌, List, Option, None, length,
 use Rattle.serde_json.specs.Data.{Data, null}
 use Rattle.sarif_model.specs.declared.record.Record.{Record}
 use Rattle.sarif_model.specs.Run.{results_of, results_total}
-use Rattle.sarif_match.specs.Evidence.{state_in}
+use Rattle.sarif_evidence.specs.Evidence.{state_in}
 use Rattle.sarif_match.specs.Partners.{partners_in}
 use Rattle.sarif_runs.specs.Judging.{records_of, run_values}
 use Rattle.sarif_log.specs.MergedRuns.{written}

@@ -8,6 +8,8 @@ pub mod KeptSides
 pub mod LeftTexts
 pub mod ListedTold
 pub mod Marked
+pub mod MarkedRuns
+pub mod MarkedSides
 pub mod ResultsAlike
 pub mod RunPartsOf
 pub mod RunsAlike

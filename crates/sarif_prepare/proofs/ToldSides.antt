@@ -5,8 +5,8 @@ use Rattle.std.proofs.lemmas.List.Concat.{flat_map-append}
 use Rattle.std.specs.Prelude.{flat_map}
 use Rattle.serde_json.specs.Data.{Data}
 use Rattle.sarif_model.specs.declared.kinds.State.TheVariants.{Absent}
-use Rattle.sarif_model.specs.Run.{results_of}
-use Rattle.sarif_match.specs.declared.version.MatchingVersion.{MatchingVersion}
+use Rattle.sarif_model.specs.Run.{results_of, present}
+use Rattle.sarif_evidence.specs.declared.version.MatchingVersion.{MatchingVersion}
 use Rattle.sarif_match.specs.Partners.{partners_in}
 use Rattle.sarif_entries.specs.File.{File}
 use Rattle.sarif_runs.specs.Judging.{records_of, run_values}
@@ -17,7 +17,6 @@ use Rattle.sarif_findings.specs.declared.reporting.Reporting.{Reporting}
 use Rattle.sarif_findings.specs.Reported.{reported_in}
 use Rattle.sarif_results.specs.Drafts.{applied_of, drafts_by}
 use Rattle.sarif_log.specs.Internal.Texts.{present_results}
-use Rattle.sarif_model.specs.Run.{present}
 use Rattle.sarif_prepare.specs.declared.baselines.Baselines.{Baselines}
 use Rattle.sarif_prepare.specs.declared.halves.Half.{Half}
 use Rattle.sarif_prepare.specs.declared.preparing.Paired.{Paired}
@@ -38,7 +37,7 @@ pairs_count (run ∷ runs) =
     ∙ ap (λ n. length (present (results_of run)) + n) (pairs_count runs)
     ∙ sym (length-append (present (results_of run)) (present_results runs))
 
-current_told : (v : MatchingVersion) (reporting : Reporting) (file : File) (now before : List Placed) (c : Half) (b : Baselines) (p : Paired)
+pub current_told : (v : MatchingVersion) (reporting : Reporting) (file : File) (now before : List Placed) (c : Half) (b : Baselines) (p : Paired)
     → AreTogether file now before c b → IsPaired v c b p
     → told_each reporting (map (pair_at now) (spots_from 0 now)) c.drafts.items p.states.items ≡ flat_map (reported_in reporting) (current_runs v file now before)
 current_told v reporting file now before c b p h q =

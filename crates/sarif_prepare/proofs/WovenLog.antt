@@ -22,7 +22,7 @@ use Rattle.sarif_log.specs.declared.prepared.Prepared.{Prepared}
 use Rattle.sarif_log.proofs.RunCounts.{left_count as left_counted, runs_count}
 use Rattle.sarif_log.proofs.RunTexts.{runs_written}
 use Rattle.sarif_log.proofs.Sides.{drafts_long, few_present, own_total, records_present, results_long, runs_long, states_long, taken_long}
-use Rattle.sarif_match.specs.declared.version.MatchingVersion.{MatchingVersion}
+use Rattle.sarif_evidence.specs.declared.version.MatchingVersion.{MatchingVersion}
 use Rattle.sarif_match.specs.Partners.{partners_in}
 use Rattle.sarif_model.specs.declared.kinds.Level.{Level}
 use Rattle.sarif_model.specs.declared.kinds.State.{State}

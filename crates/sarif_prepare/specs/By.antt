@@ -11,11 +11,12 @@ use Rattle.sarif_log.specs.Log.{log_with}
 use Rattle.sarif_log.specs.LogBy.{current_runs, leftover_runs, runs_by, runs_without_results}
 use Rattle.sarif_log.specs.declared.copies.CopyPlace.{CopyPlace}
 use Rattle.sarif_log.specs.declared.prepared.Prepared.{Prepared}
-use Rattle.sarif_match.specs.declared.version.MatchingVersion.{MatchingVersion}
+use Rattle.sarif_evidence.specs.declared.version.MatchingVersion.{MatchingVersion}
 use Rattle.sarif_once.specs.Once.{without_copies}
 use Rattle.sarif_options.specs.declared.checks.Checks.{Checks}
 use Rattle.sarif_options.specs.declared.policy.Policy.{Policy}
-use Rattle.sarif_prepare.specs.Kept.{merge_of}
+use Rattle.sarif_prepare.specs.Chosen.{chosen_merge}
+use Rattle.sarif_choice.specs.declared.choice.Choosing.{Choosing}
 use Rattle.sarif_prepare.specs.Once.{copies_written, current_once, leftover_once}
 use Rattle.sarif_runs.specs.Judging.{records_of, run_values}
 use Rattle.sarif_runs.specs.Placed.{Placed}
@@ -72,7 +73,8 @@ logged_by checks file current baseline policy =
     (written_if checks.once checks.matching file current baseline)
 
 -- the merge of the results that are counted, for later merges
-abbrev pub merge_by : Checks → File → Option (List ℕ) → Policy → List Placed → List Placed → Merge
-merge_by checks file bytes policy current baseline =
-    merge_of checks.matching file bytes policy
+abbrev pub merge_by : Checks → File → Option (List ℕ) → Policy → Option Choosing
+    → List Placed → List Placed → Merge
+merge_by checks file bytes policy choice current baseline =
+    chosen_merge checks.matching file bytes policy choice
     (counted_if checks.once current) (counted_if checks.once baseline)

@@ -6,6 +6,7 @@ pub mod Keeping
 pub mod LeftParts
 pub mod Leftover
 pub mod Marked
+pub mod Marking
 pub mod Telling
 pub mod Together
 pub mod Woven

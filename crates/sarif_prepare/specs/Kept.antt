@@ -6,7 +6,7 @@ use Rattle.sarif_model.specs.MergeFault.{out_of_memory}
 use Rattle.sarif_counts.specs.declared.life.Life.{Life}
 use Rattle.sarif_options.specs.declared.policy.Policy.{Policy}
 use Rattle.sarif_options.specs.declared.upkeep.Upkeep.{Upkeep}
-use Rattle.sarif_match.specs.declared.version.MatchingVersion.{MatchingVersion}
+use Rattle.sarif_evidence.specs.declared.version.MatchingVersion.{MatchingVersion}
 use Rattle.sarif_entries.specs.File.{File}
 use Rattle.sarif_runs.specs.Judging.{records_of, run_values}
 use Rattle.sarif_runs.specs.Placed.{Placed}
@@ -45,6 +45,8 @@ merge_of version file bytes policy current baseline = record {
   records = records_of current;
   states = states_of version (records_of current) (records_of baseline);
   standings = standings_of version (records_of current) (records_of baseline);
+  chosen = None;
+  misfit = None;
   before = run_values baseline;
   known = records_of baseline;
   taken = taken_of version (records_of current) (records_of baseline);

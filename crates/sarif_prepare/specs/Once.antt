@@ -10,7 +10,7 @@ use Rattle.sarif_log.specs.LogBy.{listing_of, runs_by, runs_without_results, sta
 use Rattle.sarif_log.specs.MergedRuns.{absent_runs, merged_runs}
 use Rattle.sarif_log.specs.declared.copies.CopyPlace.{CopyPlace}
 use Rattle.sarif_log.specs.declared.prepared.Prepared.{Prepared}
-use Rattle.sarif_match.specs.declared.version.MatchingVersion.{MatchingVersion}
+use Rattle.sarif_evidence.specs.declared.version.MatchingVersion.{MatchingVersion}
 use Rattle.sarif_model.specs.Run.{present, results_of}
 use Rattle.sarif_model.specs.declared.kinds.State.{State}
 use Rattle.sarif_model.specs.declared.kinds.State.TheVariants.{New}

@@ -12,6 +12,7 @@ mod keeping;
 mod left;
 mod leftover;
 mod leftovers;
+mod marking;
 mod matched;
 mod once;
 mod parts_of_runs;

@@ -3,9 +3,10 @@ ghost use Rattle.std.specs.Prelude.{◌≡◌, false, true, List, Some, IfOk, If
 ghost use Rattle.sarif_log.specs.LogBy.{expired_of};
 ghost use Rattle.sarif_model.specs.declared.record.Record.{Record};
 ghost use Rattle.sarif_once.specs.Once.{without_copies};
-ghost use Rattle.sarif_prepare.specs.Asked.{reporting_in, upkeep_in};
+ghost use Rattle.sarif_prepare.specs.Asked.{choice_in, reporting_in, upkeep_in};
+ghost use Rattle.sarif_prepare.specs.Chosen.{chosen_merge};
 ghost use Rattle.sarif_prepare.specs.Internal.Woven.{flags_of, AreApart, AreWoven};
-ghost use Rattle.sarif_prepare.specs.Kept.{bytes_of, merge_of, IsKept, IsUnkept};
+ghost use Rattle.sarif_prepare.specs.Kept.{bytes_of, IsKept, IsUnkept};
 ghost use Rattle.sarif_prepare.specs.Once.{IsPreparedOnce};
 ghost use Rattle.sarif_results.specs.Internal.Judged.{placed_in, IsJudged};
 ghost use Rattle.sarif_runs.specs.Placed.{Placed};
@@ -133,13 +134,13 @@ fn prepare_split<R: Threads + Sync>(
         (λ prepared. (rs : List Record) → prepared.expired ≡ expired_of rules.now.file.now rs) }
     ensures kept { (now before : List Placed)
         → AreApart rules.now.file.now now before split.entry
-        → IfOk result (λ prepared. IsKept (merge_of asked.now.options.now.checks.matching
-        rules.now.file.now (bytes_of rules.now) asked.now.options.now.policy
+        → IfOk result (λ prepared. IsKept (chosen_merge asked.now.options.now.checks.matching
+        rules.now.file.now (bytes_of rules.now) asked.now.options.now.policy (choice_in asked.now)
         (without_copies now) (without_copies before)) (upkeep_in asked.now) prepared.life) }
     ensures unkept { (now before : List Placed)
         → AreApart rules.now.file.now now before split.entry
-        → IfErr result (IsUnkept (merge_of asked.now.options.now.checks.matching
-        rules.now.file.now (bytes_of rules.now) asked.now.options.now.policy
+        → IfErr result (IsUnkept (chosen_merge asked.now.options.now.checks.matching
+        rules.now.file.now (bytes_of rules.now) asked.now.options.now.policy (choice_in asked.now)
         (without_copies now) (without_copies before)) (upkeep_in asked.now)) }
 {
     let SplitSides {
@@ -184,12 +185,13 @@ pub fn prepare_once<R: Threads + Sync>(
         (placed_in baseline.entry) (reporting_in asked.now)) }
     ensures expired { IfOk result
         (λ prepared. (rs : List Record) → prepared.expired ≡ expired_of rules.now.file.now rs) }
-    ensures kept { IfOk result (λ prepared. IsKept (merge_of asked.now.options.now.checks.matching
-        rules.now.file.now (bytes_of rules.now) asked.now.options.now.policy
+    ensures kept { IfOk result
+        (λ prepared. IsKept (chosen_merge asked.now.options.now.checks.matching
+        rules.now.file.now (bytes_of rules.now) asked.now.options.now.policy (choice_in asked.now)
         (without_copies (placed_in current.entry)) (without_copies (placed_in baseline.entry)))
         (upkeep_in asked.now) prepared.life) }
-    ensures unkept { IfErr result (IsUnkept (merge_of asked.now.options.now.checks.matching
-        rules.now.file.now (bytes_of rules.now) asked.now.options.now.policy
+    ensures unkept { IfErr result (IsUnkept (chosen_merge asked.now.options.now.checks.matching
+        rules.now.file.now (bytes_of rules.now) asked.now.options.now.policy (choice_in asked.now)
         (without_copies (placed_in current.entry)) (without_copies (placed_in baseline.entry)))
         (upkeep_in asked.now)) }
 {

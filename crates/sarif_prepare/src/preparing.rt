@@ -14,8 +14,9 @@ ghost use Rattle.sarif_log.specs.LogBy.{expired_of, listing_of, runs_by};
 ghost use Rattle.sarif_log.specs.Internal.Prepared.{IsPrepared};
 ghost use Rattle.sarif_results.specs.Internal.Judged.{placed_in, IsJudged};
 ghost use Rattle.sarif_upkeep.specs.Internal.IsMatched.{IsFileOf};
-ghost use Rattle.sarif_prepare.specs.Kept.{bytes_of, merge_of, IsKept, IsUnkept};
-ghost use Rattle.sarif_prepare.specs.Asked.{reporting_in, upkeep_in};
+ghost use Rattle.sarif_prepare.specs.Chosen.{chosen_merge};
+ghost use Rattle.sarif_prepare.specs.Kept.{bytes_of, IsKept, IsUnkept};
+ghost use Rattle.sarif_prepare.specs.Asked.{choice_in, reporting_in, upkeep_in};
 ghost use Rattle.sarif_prepare.specs.Internal.Together.{AreTogether, IsPaired};
 ghost use Rattle.sarif_log.specs.Told.{told_of};
 ghost use Rattle.sarif_model.specs.Limits.{most_runs};
@@ -97,7 +98,7 @@ fn pair_results<R: Threads + Sync>(
 }
 
 /// The findings of the written results, if they are requested.
-fn tell_results<R: Threads + Sync>(
+pub(crate) fn tell_results<R: Threads + Sync>(
     rt: &R,
     alloc: Global,
     asked: &Asked<'_>,
@@ -196,14 +197,16 @@ pub(crate) fn tell_sides<R: Threads + Sync>(
         ≡ told_of (reporting_in asked.now) (runs_by asked.now.options.now.checks.matching file current_runs baseline_runs)) }
     ensures kept { (current_runs baseline_runs : List Placed)
         → AreTogether rules.now.file.now current_runs baseline_runs current.now baselines.now
-        → IfOk result (λ told. IsKept (merge_of asked.now.options.now.checks.matching
+        → IfOk result (λ told. IsKept (chosen_merge asked.now.options.now.checks.matching
         rules.now.file.now (bytes_of rules.now)
-        asked.now.options.now.policy current_runs baseline_runs) (upkeep_in asked.now) told.life) }
+        asked.now.options.now.policy (choice_in asked.now) current_runs baseline_runs)
+        (upkeep_in asked.now) told.life) }
     ensures unkept { (current_runs baseline_runs : List Placed)
         → AreTogether rules.now.file.now current_runs baseline_runs current.now baselines.now
-        → IfErr result (IsUnkept (merge_of asked.now.options.now.checks.matching
+        → IfErr result (IsUnkept (chosen_merge asked.now.options.now.checks.matching
         rules.now.file.now (bytes_of rules.now)
-        asked.now.options.now.policy current_runs baseline_runs) (upkeep_in asked.now)) }
+        asked.now.options.now.policy (choice_in asked.now) current_runs baseline_runs)
+        (upkeep_in asked.now)) }
 {
     let paired = pair_results(rt, alloc, current, baselines, asked.options)?;
     let findings = tell_results(rt, alloc, asked, current, baselines, &paired)?;
@@ -212,7 +215,7 @@ pub(crate) fn tell_sides<R: Threads + Sync>(
         baselines,
         paired: &paired,
     };
-    let life = keep_if_asked(alloc, &sides, rules, asked)?;
+    let life = keep_if_asked(rt, alloc, &sides, rules, asked)?;
     Ok(ReportedSides {
         paired,
         findings,
@@ -239,15 +242,17 @@ fn prepare_sides<R: Threads + Sync>(
         (reporting_in asked.now) prepared) }
     ensures kept { (current_runs baseline_runs : List Placed)
         → AreTogether rules.now.file.now current_runs baseline_runs current.entry baselines.entry
-        → IfOk result (λ prepared. IsKept (merge_of asked.now.options.now.checks.matching
+        → IfOk result (λ prepared. IsKept (chosen_merge asked.now.options.now.checks.matching
         rules.now.file.now (bytes_of rules.now)
-        asked.now.options.now.policy current_runs baseline_runs) (upkeep_in asked.now)
+        asked.now.options.now.policy (choice_in asked.now) current_runs baseline_runs)
+        (upkeep_in asked.now)
         prepared.life) }
     ensures unkept { (current_runs baseline_runs : List Placed)
         → AreTogether rules.now.file.now current_runs baseline_runs current.entry baselines.entry
-        → IfErr result (IsUnkept (merge_of asked.now.options.now.checks.matching
+        → IfErr result (IsUnkept (chosen_merge asked.now.options.now.checks.matching
         rules.now.file.now (bytes_of rules.now)
-        asked.now.options.now.policy current_runs baseline_runs) (upkeep_in asked.now)) }
+        asked.now.options.now.policy (choice_in asked.now) current_runs baseline_runs)
+        (upkeep_in asked.now)) }
 {
     let ReportedSides {
         paired,
@@ -306,13 +311,16 @@ pub fn prepare<R: Threads + Sync>(
     ensures prepared { IfOk result (IsPrepared asked.now.options.now.checks.matching
         rules.now.file.now (placed_in current.entry)
         (placed_in baseline.entry) (reporting_in asked.now)) }
-    ensures kept { IfOk result (λ prepared. IsKept (merge_of asked.now.options.now.checks.matching
+    ensures kept { IfOk result
+        (λ prepared. IsKept (chosen_merge asked.now.options.now.checks.matching
         rules.now.file.now (bytes_of rules.now)
-        asked.now.options.now.policy (placed_in current.entry) (placed_in baseline.entry))
+        asked.now.options.now.policy (choice_in asked.now)
+        (placed_in current.entry) (placed_in baseline.entry))
         (upkeep_in asked.now) prepared.life) }
-    ensures unkept { IfErr result (IsUnkept (merge_of asked.now.options.now.checks.matching
+    ensures unkept { IfErr result (IsUnkept (chosen_merge asked.now.options.now.checks.matching
         rules.now.file.now (bytes_of rules.now)
-        asked.now.options.now.policy (placed_in current.entry) (placed_in baseline.entry))
+        asked.now.options.now.policy (choice_in asked.now)
+        (placed_in current.entry) (placed_in baseline.entry))
         (upkeep_in asked.now)) }
 {
     let current = current_half(alloc, current)?;

@@ -14,11 +14,16 @@ use Rattle.sarif_shown.specs.Sentences.{counted, entries_text, runs_text}
 use Rattle.sarif_streams.specs.Counted.{failed_calls, inner_of}
 use Rattle.sarif_program.specs.declared.complaint.Complaints.{Complaints}
 
+-- how many hits are alike, if not all hits are chosen, and how many stay
+abbrev pub left_text : Option ℕ → ℕ → List ℕ
+left_text None stay = decimal stay
+left_text (Some n) stay = decimal n ++ (codes " alike, " ++ decimal stay)
+
 -- the line on a new suppression file
 abbrev pub file_line : NewFile → List ℕ
 file_line file =
     codes "sarif_gate: " ++ (decimal file.accepted
-    ++ (codes " accepted, " ++ (decimal file.stay
+    ++ (codes " accepted, " ++ (left_text file.alike file.stay
     ++ (codes " stay, " ++ (decimal file.pruned
     ++ (codes " pruned, " ++ (decimal file.entries ++ (codes " entries" ++ newline))))))))
 

@@ -6,8 +6,9 @@ use Rattle.sarif_runs.specs.Judging.{records_of, run_values}
 use Rattle.sarif_once.specs.Once.{without_copies}
 use Rattle.sarif_log.specs.LogBy.{states_of}
 use Rattle.sarif_log.proofs.Sides.{results_long, taken_long}
-use Rattle.sarif_prepare.specs.Asked.{upkeep_in}
-use Rattle.sarif_prepare.specs.Kept.{bytes_of, merge_of, IsKept}
+use Rattle.sarif_prepare.specs.Asked.{choice_in, upkeep_in}
+use Rattle.sarif_prepare.specs.Chosen.{chosen_merge}
+use Rattle.sarif_prepare.specs.Kept.{bytes_of, IsKept}
 use Rattle.sarif_prepare.specs.Internal.Baselines.{baseline_drafts}
 use Rattle.sarif_prepare.specs.Internal.Leftover.{not_taken}
 use Rattle.sarif_prepare.specs.Internal.Woven.{AreLeftWoven}
@@ -91,7 +92,7 @@ returns-clause-kept g c = λ now before h.
     let tb = without_copies before in
     let options = c.args.asked.now.options.now in
     let rules = c.args.rules.now in
-    let merge = merge_of options.checks.matching rules.file.now (bytes_of rules) options.policy tn tb in
+    let merge = chosen_merge options.checks.matching rules.file.now (bytes_of rules) options.policy (choice_in c.args.asked.now) tn tb in
     subst (λ l. IsKept merge (upkeep_in c.args.asked.now) l) (sym c.put_together.ensures.life) (c.in_ok-paired.ensures.kept tn tb h.together)
 
 pub returns-in_err-paired-clause-unkept : goal.returns-in_err-paired-clause-unkept

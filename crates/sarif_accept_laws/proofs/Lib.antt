@@ -1,0 +1,12 @@
+pub mod After
+pub mod AfterChosen
+pub mod ChosenCounted
+pub mod EntryMatches
+pub mod EntryWhole
+pub mod FileRead
+pub mod GivenFile
+pub mod GuidFits
+pub mod Kept
+pub mod NewFileRead
+pub mod SameConditions
+pub mod SameVersion
