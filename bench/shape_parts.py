@@ -24,6 +24,8 @@ class Input:
     are_reported: bool = False
     # Which files for later merges are requested: `accept`, `known` or none.
     kept: str = ""
+    # The places whose hits are accepted; without any, all are.
+    places: tuple = ()
     # Whether the merge is rejected, since a file for later merges would be too long.
     is_too_long: bool = False
     # The version of matching. Without the option it is 2.
@@ -39,7 +41,7 @@ class Input:
         if self.are_reported:
             words += [word for it in REPORTS for word in (f"--{it}", str(folder / it))]
         if self.kept == "accept":
-            words += ["--suppress-out", str(folder / "new"), "--accept"]
+            words += ["--suppress-out", str(folder / "new"), "--accept", *(f"--at={it}" for it in self.places)]
         if self.kept == "known":
             words += ["--known", str(folder / "known"), "--adopt"]
         if self.matching != 2:

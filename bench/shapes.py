@@ -421,6 +421,13 @@ def accepted_alike(count):
         yield Input([log(run(results))], kept="accept")
 
 
+def chosen_places(count):
+    """Hits of one file, rule and message, of which 1,000 are accepted by their places. The twin accepts all of them."""
+    results = [message(level="error", ruleId="R1", **in_region(startLine=n + 1)) for n in range(count)]
+    for places in (range(1, 1_001), ()):
+        yield Input([log(run(results))], kept="accept", places=tuple(f"a.c:{n}" for n in places))
+
+
 def accepted_of_long_tool(count):
     """Hits whose entries are too long together, since each has the long name of their tool."""
     for name in (LONG, "t"):
@@ -604,6 +611,7 @@ SHAPES = {
     "sources": (sources, 1_000),
     # The new suppression file and the known log.
     "accepted_alike": (accepted_alike, 200_000),
+    "chosen_places": (chosen_places, 100_000),
     "accepted_of_long_tool": (accepted_of_long_tool, 9_000),
     "deep_file": (deep_file, 2_000_000),
     "known_tools": (known_tools, 10_000),

@@ -28,6 +28,8 @@ complete -c sarif_gate -l accept -d 'Add an entry to the new suppression file fo
 complete -c sarif_gate -l prune -d 'Leave out of the new suppression file what expired, and what matches no result of a tool that ran'
 complete -c sarif_gate -l reason -x -d 'Justification of the entries that --accept adds'
 complete -c sarif_gate -l until -x -d 'Expiry date of the entries that --accept adds, for example 20270101'
+complete -c sarif_gate -l at -x -d 'Accept only hits at this place: PATH, PATH:LINE or PATH:LINE:COLUMN as --text prints it'
+complete -c sarif_gate -l rule -x -d 'Accept only hits of this rule'
 complete -c sarif_gate -l adopt -d 'Let new hits and new suppressed results into the known log too'
 complete -c sarif_gate -l suppress-out -r -F -d 'Write a new suppression file, made with --accept, --prune or both'
 complete -c sarif_gate -l known -r -F -d 'Write a log of what is known, as the baseline of later merges'

@@ -1,7 +1,8 @@
-"""Cases of version 5 of the suppression file: the condition on a result's snippet."""
+"""Cases of version 5 of the suppression file: the condition on a result's snippet, and how many results an entry matches."""
 
 from cases import *
 from cases_life import GUID, entries, known, life, pretty, rerun
+from cases_once import copied
 from cases_versions import one, spoken
 from cases_words import merging
 from matching_examples import listed
@@ -53,6 +54,75 @@ def examples():
         yield suppressing(f"no version: {name}", given, words, unmatched)
 
 
+# The same for entries with a limit on how many results they match.
+LIMITED = [
+    ([{"max": 2, "uri": "a.c"}], 'a"x" b a"y" a"z"', "s a s a 0"),
+    ([{"max": 1, "tool": "lint"}, {"max": 2, "uri": "a.c"}], "a a a", "s s a 0"),
+    ([{"max": 2, "uri": "a.c"}, {"max": 1, "tool": "lint"}], "a a a", "s s a 0"),
+    ([{"max": 1, "uri": "a.c"}, {"max": 1, "uri": "b.c"}], "a b a b", "s s a a 0"),
+    ([{"max": 1, "uri": "a.c"}, {"uri": "a.c"}], "a a", "s s 0"),
+    ([{"max": 1, "uri": "a.c"}] * 2, "a a", "s a 0"),
+    ([{"max": 1, "uri": "b.c"}], "a a", "a a 1"),
+    ([{"max": 4294967295, "uri": "a.c"}], "a b a", "s a s 0"),
+    ([{"max": None, "uri": "a.c"}], "a b a", "s a s 0"),
+]
+
+
+def limits():
+    """Entries with `max` match the first results that meet them, in every version of matching."""
+    for given, words, answer in LIMITED:
+        name = f"{json.dumps(given)} on {words}"
+        yield suppressing(f"limited: {name}", given, words, answer)
+        yield suppressing(f"limited, version 3: {name}", given, words, answer, ["--matching", "3"])
+    one_of_two = rules({"max": 1, "uri": "a.c"}, version=5)
+    logs = [log(run("lint", *[spoken(it) for it in listed(words)])) for words in ("b a@3", "a@3 a@4")]
+    counts = [gate(new=[0, it, 0, 0], suppressed={"new": [0, 1, 0, 0]}) for it in (3, 2)]
+    states = ["new"] * 4
+    yield merging("fifth", "a limit is that of all logs", logs, suppress=one_of_two, check=tells(counts[0], states))
+    yield merging(
+        "fifth",
+        "copies use up no limit",
+        logs,
+        suppress=one_of_two,
+        more=["--once"],
+        check=copied(counts[1], [[1, 0]], states),
+    )
+    yield merging(
+        "fifth",
+        "an entry that is over uses up no limit",
+        [log(run("lint", spoken(listed("a")[0])))],
+        suppress=rules({"max": 1, "uri": "a.c", "expires": 20250130}, {"max": 1, "uri": "a.c"}, version=5),
+        more=["--today", "20250131"],
+        check=tells(gate(unused=1, suppressed={"new": [0, 1, 0, 0]}), ["new"]),
+    )
+
+
+def kept_limits():
+    """A new suppression file keeps `max`, and adds none."""
+    limited = {**WORDED, "max": 1}
+    file = {"s": rules(limited, version=5)}
+    results = log(run("lint", bad("a@3"), bad("a@4")))
+    for words, accepted, made in (("--accept", 1, [limited, WORDED]), ("--prune", 0, [limited])):
+        yield life(
+            f"a limit stays with {words}",
+            f"--suppress s --suppress-out n {words}",
+            results,
+            file,
+            status=1,
+            said=[f"sarif_gate: {accepted} accepted, 0 stay, 0 pruned, {len(made)} entries"],
+            last="gate: fail, hits 1, max 0",
+            made={"n": pretty(entries(*made, version=5))},
+        ).into("fifth")
+    yield life(
+        "a limited entry before an accepted one",
+        "--suppress s",
+        results,
+        {"s": rules(limited, WORDED, version=5)},
+        last="gate: pass, hits 0, max 0",
+        holds=['"unusedSuppressions":0'],
+    ).into("fifth")
+
+
 CONTEXT = {"startLine": 3, "snippet": {"text": "x"}}
 READ = {
     "a context of the same lines": ({"region": {"startLine": 3}, "contextRegion": CONTEXT}, True),
@@ -100,9 +170,11 @@ REJECTED = [
     (5, {"snippet": None}, "EmptyMatch"),
     (5, {"snippet": None, "messageArguments": [], "fingerprints": {"f": None}}, "EmptyMatch"),
     (5, {"Snippet": "x"}, "BadEntry"),
-    # There is no limit on how many results an entry matches yet.
-    *((version, {"max": it, "tool": "lint"}, "BadEntry") for version in (4, 5) for it in (1, None)),
-    (5, {"max": 1}, "BadEntry"),
+    *((5, {"max": it, "tool": "lint"}, "BadEntry") for it in (0, -1, 4294967296, "1", 1.5, 1.0, True, [1])),
+    *((version, {"max": it, "tool": "lint"}, "BadEntry") for version in TWO for it in (1, None)),
+    (5, {"max": 1}, "EmptyMatch"),
+    (5, {"max": None}, "EmptyMatch"),
+    (5, {"max": 0}, "BadEntry"),
 ]
 
 
@@ -273,5 +345,5 @@ def known_logs():
 
 
 def cases():
-    for part in (examples, read, rejected, accepted, versions_of_files, known_logs):
+    for part in (examples, limits, read, rejected, accepted, kept_limits, versions_of_files, known_logs):
         yield from part()

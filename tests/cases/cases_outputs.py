@@ -422,6 +422,16 @@ def explained_outputs():
         yield explained(f"{fault}, explained", files, fault, words, file="no/f", system=True, advice=True)
 
 
+def explained_choices():
+    """Places and rules that fit no hit that is accepted."""
+    hit = log(run("lint", ruled(level="error")))
+    for option, name in (("at", "a.c:3"), ("rule", "r1"), ("rule", ""), ("at", "x" * 81)):
+        words = ["--suppress-out", "n", "--accept", f"--{option}={name}", "--out", "o", "a"]
+        found = name if len(name) <= 80 else "x" * 80 + "..."
+        told = {"found": found, "wanted": True, "advice": True}
+        yield explained(f"--{option} {name[:9]} fits no hit", {"a": hit}, f"--{option} 0: NoHit", words, **told)
+
+
 def explained_inputs(bad):
     """Errors of a baseline and of an entry of the suppression file: their bytes are kept for explanations, too."""
     where = {"where": "/runs/0/results/7/correlationGuid", "found": '"x"'}
@@ -541,6 +551,7 @@ def explanations():
     yield one("the same, not explained", words, stderr=line(place), **given)
     yield from happened()
     yield from explained_outputs()
+    yield from explained_choices()
     yield from explained_inputs(bad)
     yield from explained_forms()
     evil = plain(correlationGuid="x\n\x1b[31m##\u202e")

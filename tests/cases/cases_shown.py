@@ -51,7 +51,9 @@ def accepting(hits, command="`{}`"):
     """How to accept this number of hits, with each part of a command in a pattern."""
     them = "this hit" if hits == 1 else "these hits"
     make, use = command.format("--accept --reason TEXT --suppress-out FILE"), command.format("--suppress FILE")
-    return f"To accept {them}, run the same merge with {make}, review FILE, and pass {use} from then on."
+    one = command.format("--at PLACE")
+    use = f"{use} from then on; {one} accepts one alone."
+    return f"To accept {them}, run the same merge with {make}, review FILE, and pass {use}"
 
 
 def ends(piece, table=None, hits=0):
@@ -424,7 +426,7 @@ MARKDOWN = """\
 |  | warning | <code>django/forms/forms&#46;py&#58;12&#58;5</code> | <code>B703</code> | <code>Potential XSS on mark&#95;safe function&#46;</code> | <code>Bandit</code> | new |
 |  | note | <code>-</code> |  | <code>x &#58;&#58;error&#58;&#58;y &#35; &#35;&#91;z&#93; &#123;0&#125;</code> | <code>Bandit</code> | new |
 
-To accept this hit, run the same merge with `--accept --reason TEXT --suppress-out FILE`, review FILE, and pass `--suppress FILE` from then on.
+To accept this hit, run the same merge with `--accept --reason TEXT --suppress-out FILE`, review FILE, and pass `--suppress FILE` from then on; `--at PLACE` accepts one alone.
 """
 
 GITLAB = """[{"check_name":"B703","description":"Potential XSS on mark_safe function.","fingerprint":"fd273b5e336360fba395744f1a4977133a2a2978631842434d51f65ae37747db","location":{"lines":{"begin":12},"path":"django/forms/forms.py"},"severity":"major"},{"check_name":"B703","description":"Use of a%b in {x} 1 {01} {2}","fingerprint":"e55a18772619595811ce4cbf0c71dbedef72f3b05e7dce49b8a8d4e78d89e4bc","location":{"lines":{"begin":1},"path":"a b.c"},"severity":"critical"},{"check_name":"unknown","description":"x ::error::y # #[z] {0}","fingerprint":"339cb18f69a2fd290434b7ec3d9b91ea6a6e4fda14dfb132c9711ee8ed83b46a","location":{"lines":{"begin":1},"path":"unknown"},"severity":"minor"}]"""

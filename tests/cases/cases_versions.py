@@ -192,7 +192,6 @@ UNREAD = [
     (5, {"snippet": ["x"]}, "BadEntry"),
     (5, {"snippet": {"text": "x"}}, "BadEntry"),
     (5, {"snippet": None}, "EmptyMatch"),
-    (5, {"tool": "lint", "max": 1}, "BadEntry"),
     *((version, {"tool": "lint", "snippet": value}, "BadEntry") for version in (1, 2, 4) for value in ("x", None)),
 ]
 

@@ -26,6 +26,14 @@ NAMES = ["f/v1", "f/v2", "", "f", "é", "\U0001f600", "\uffff"]
 TEXTS = ["", "a", "A", "é", "\U0001f600", "\uffff", "\0\x1f\x7f", '"\\/', "\b\f\n\r\t"]
 
 
+def choice(rng):
+    """Options of a merge that accepts only some of the hits of such inputs."""
+    places = rng.sample(["a.c", "gen/a.c", "b.c", "é.c", "-"], rng.choice([0, 1, 1, 2]))
+    words = [f"--at={it}{rng.choice(['', '', ':1', ':2'])}" for it in places]
+    words += [f"--rule={it}" for it in rng.sample(["R1", "R2", "", "R1/a"], rng.choice([0, 1, 1, 2]))]
+    return words + ["--root", "gen/"] * (rng.random() < 0.3)
+
+
 class Raw:
     """A value that is written as this string."""
 
@@ -313,7 +321,11 @@ class Inputs:
             ("messageId", 0.1, self.one(["i", "m"])),
             ("messageArguments", 0.1, self.one([["x"], ["x", "y"], []])),
         ]
-        shown = [("snippet", 0.4, self.one(["x", " x", "x\n", "y", "", "\t", "\u00a0"]))]
+        no_limits = [0, -1, 4294967296, "1", Raw("1.0"), True] if self.chance(self.wrong) else []
+        shown = [
+            ("snippet", 0.4, self.one(["x", " x", "x\n", "y", "", "\t", "\u00a0"])),
+            ("max", 0.4, self.one([1, 1, 2, 3, 4294967295] + no_limits)),
+        ]
         found = self.members(
             ("tool", 0.3, self.one(["lint", "flint", "x"])),
             ("ruleId", 0.4, self.one(RULES)),

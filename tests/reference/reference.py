@@ -13,7 +13,7 @@ import sys
 from reference_arguments import NoArguments, Unread, replaced
 from reference_entries import read_rules
 from reference_json import Fault, compact, read_json, stripped
-from reference_life import Known, PastLimit, Renewed, failed, file_of, happened, unused
+from reference_life import Choice, Known, PastLimit, Renewed, failed, file_of, happened, unused
 from reference_matching import fields, has_evidence, partners, region_and_snippet, state
 from reference_members import KINDS, LEVELS, STATES, STATUSES, guid, index, objects, of_kind, one_of, texts
 
@@ -261,7 +261,7 @@ class Finding:
     def __init__(self, run, value, record):
         self.run, self.value, self.record = run, value, record
         self.state, self.list, self.statuses = "absent", own_of(value), list(record.held)
-        self.first = self
+        self.first, self.matched = self, []
 
     def suppress(self, entry):
         self.statuses.append(entry.status)
@@ -298,7 +298,7 @@ class Merge:
     """A merge of sources, which are byte strings."""
 
     def __init__(self, logs, baselines, suppress=None, policy=None, today=None, checks=None):
-        self.policy, self.checks = policy or Policy(), checks or Checks()
+        self.policy, self.checks, self.today = policy or Policy(), checks or Checks(), today
         check_number(logs, baselines)
         self.runs, self.results = 0, 0
         logs = [self.read(f"log {number}", source) for number, source in enumerate(logs)]
@@ -368,26 +368,36 @@ class Merge:
         before = [finding.record for finding in self.baseline]
         version = self.checks.version
         found = partners([finding.record for finding in self.current], before, version)
-        self.used = used = set()
+        self.used, met = set(), [0] * len(self.entries)
         for finding, partner in zip(self.current, found):
             other = None if partner is None else before[partner]
             finding.state = state(finding.record, other, version)
             finding.is_sure = other is None or version == 2 or has_evidence(finding.record, other)
-            for number, entry in enumerate(self.entries):
-                if entry.matches(finding.record):
-                    used.add(number)
-                    finding.suppress(entry)
-        self.unused = len(self.entries) - len(used)
+            finding.matched = self.matching(finding.record, met)
+            for number in finding.matched:
+                self.used.add(number)
+                finding.suppress(self.entries[number])
+        self.unused = len(self.entries) - len(self.used)
         self.absent = [finding for j, finding in enumerate(self.baseline) if j not in found]
+
+    def matching(self, record, met):
+        """The numbers of the entries that match a finding. `met` has for each entry how many findings met it so far; one
+        with `max` matches only the first of these."""
+        found = []
+        for number, entry in enumerate(self.entries):
+            if entry.is_met(record):
+                met[number] += 1
+                found += [number] * (entry.max is None or met[number] <= entry.max)
+        return found
 
     def spread(self):
         """Gives copies what their findings have."""
         for copy in self.every:
             if copy.first is not copy:
                 copy.state = copy.first.state
-                for entry in self.entries:
-                    if entry.matches(copy.first.record):
-                        copy.suppress(entry)
+                copy.matched = copy.first.matched
+                for number in copy.matched:
+                    copy.suppress(self.entries[number])
         left = {id(finding) for finding in self.absent}
         self.every_absent = [it for it in self.every_before if id(it.first) in left]
 
@@ -465,7 +475,8 @@ def check_number(logs, baselines):
 
 USAGE = """Usage: sarif_gate [--baseline F]... [--suppress F] [--today N] [--workers N]
     [--fail-on L] [--states LIST] [--max N] [--suppress-out F] [--accept] [--prune]
-    [--reason TEXT] [--until N] [--unused F] [--known F] [--adopt] [--require-success]
+    [--reason TEXT] [--until N] [--at PLACE]... [--rule ID]... [--root PREFIX]...
+    [--unused F] [--known F] [--adopt] [--require-success]
     [--allow-external-properties] [--matching N] [--ignore-fingerprint NAME]... [--once]
     [--explain] --out F LOG... [@FILE]...
 """
@@ -491,6 +502,7 @@ class Request:
 
     def __init__(self, words):
         self.logs, self.baselines, self.ignored, self.given = [], [], [], {}
+        self.places, self.rules, self.roots = [], [], []
         words, plain = list(words), False
         while words:
             word = words.pop(0)
@@ -523,10 +535,15 @@ class Request:
         if not equals and (not words or words[0].startswith("-") and words[0] != "-"):
             raise Usage(2)
         value = value if equals else words.pop(0)
-        if name == "baseline":
-            self.baselines.append(value)
-        elif name == "ignore-fingerprint":
-            self.ignored.append(value)
+        several = {
+            "baseline": self.baselines,
+            "ignore-fingerprint": self.ignored,
+            "at": self.places,
+            "rule": self.rules,
+            "root": self.roots,
+        }
+        if name in several:
+            several[name].append(value)
         elif name not in (*VALUES, *RANGES, *REPORTS):
             raise Usage(2)
         else:
@@ -554,6 +571,7 @@ class Request:
             has("suppress-out") == (has("accept") or has("prune"))
             and (has("suppress") or not has("prune") and not has("unused"))
             and (has("accept") or not has("reason") and not has("until"))
+            and (has("accept") or not self.places and not self.rules)
             and (until is None or self.today is not None and self.today <= until)
             and not (has("known") and has("accept"))
             and (has("known") or not has("adopt"))
@@ -691,6 +709,8 @@ class Outputs:
     def __init__(self, request, merge):
         given = request.given
         how = {it: given[it] for it in ("accept", "prune", "reason", "until") if it in given}
+        if request.places or request.rules:
+            how["choice"] = Choice(request.places, request.rules, request.roots)
         self.files, self.lines = [], []
         try:
             if "suppress-out" in given:

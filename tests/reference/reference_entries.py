@@ -19,7 +19,7 @@ TABLE = (
 )
 DATED = ("uriPrefix", "expires")
 WORDED = ("message", "messageId", "messageArguments")
-SHOWN = ("snippet",)
+SHOWN = ("snippet", "max")
 KNOWN = {1: TABLE, 2: (*TABLE, *DATED), 4: (*TABLE, *DATED, *WORDED), 5: (*TABLE, *DATED, *WORDED, *SHOWN)}
 
 
@@ -45,6 +45,7 @@ class Entry:
         self.status = one_of(entry, "status", STATUSES, "BadEntry") or "accepted"
         self.justification = of_kind(entry, "justification", str, "BadEntry")
         self.expires = self.day(entry.get("expires"))
+        self.max = self.limit(entry.get("max"))
         named = (self.tool, self.rule, self.uri, self.prefix, self.guid, self.message, self.message_id, self.snippet)
         lists = (self.full, self.partial, self.arguments)
         if all(it is None for it in named) and not any(lists):
@@ -62,7 +63,15 @@ class Entry:
             raise Fault("BadEntry")
         return value
 
-    def matches(self, record):
+    def limit(self, value):
+        if value is None:
+            return None
+        if not is_whole(value) or not 1 <= value < 2**32:
+            raise Fault("BadEntry")
+        return value
+
+    def is_met(self, record):
+        """Whether the entry isn't expired and its conditions hold, regardless of `max`."""
         uri = record.place[0]
         text, name, arguments = record.message
         wanted = (

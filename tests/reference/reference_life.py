@@ -1,9 +1,12 @@
 """What a merge of the reference merger writes for later merges: the new suppression file, the lines of unused
 entries, and the known log. It follows the rules sentence by sentence and shares no code with the program."""
 
+from dataclasses import replace
+
+from reference_entries import read_rules
 from reference_json import compact, quoted, read_json, stripped
 from reference_matching import telling
-from reference_reports import shown
+from reference_reports import Found, Policy, reported, shown
 
 MOST_ENTRIES = 10_000
 MOST_BYTES = 67_108_864
@@ -11,7 +14,8 @@ LEVELS = ("none", "note", "warning", "error")
 
 
 class PastLimit(Exception):
-    """A new file is past a limit: the place that the error line names, and the cause."""
+    """A new file isn't made: the place that the error line names, and the cause. It is past a limit, or a place or a rule
+    names no hit."""
 
     def __init__(self, place, cause):
         super().__init__(f"{place}: {cause}")
@@ -95,22 +99,60 @@ def entry_for(record, version, reason=None, until=None):
     return there({**own, **conditions(record, version), "snippet": snippet})
 
 
+class Choice:
+    """The places and the rules that the arguments name: only hits at one of these places and of one of these rules are
+    accepted."""
+
+    def __init__(self, places=(), rules=(), roots=()):
+        self.places, self.rules, self.policy = list(places), list(rules), Policy(root=tuple(roots))
+
+    def names(self, hit):
+        """The places by which a hit may be named, and its rule."""
+        found = reported(Found(hit.run, hit.annotated()), self.policy)
+        without_column = replace(found, column=None)
+        without_line = replace(without_column, line=None)
+        return {it.place() for it in (found, without_column, without_line)}, found.rule
+
+    def chosen(self, hits):
+        """The chosen hits. Each place and each rule must name one of them."""
+        if not self.places and not self.rules:
+            return hits
+        named = [(hit, *self.names(hit)) for hit in hits]
+        chosen = [
+            (hit, places, rule)
+            for hit, places, rule in named
+            if (not self.places or places & set(self.places)) and (not self.rules or rule in self.rules)
+        ]
+        for number, place in enumerate(self.places):
+            if not any(place in places for _, places, _ in chosen):
+                raise PastLimit(f"--at {number}", "NoHit")
+        for number, rule in enumerate(self.rules):
+            if not any(rule == its for _, _, its in chosen):
+                raise PastLimit(f"--rule {number}", "NoHit")
+        return [hit for hit, _, _ in chosen]
+
+
+def able(hits):
+    """The hits that an entry can accept."""
+    return [it for it in hits if it.state != "absent" and not it.statuses]
+
+
 class Renewed:
     """The new suppression file of a merge, with its numbers."""
 
-    def __init__(self, merge, accept=False, prune=False, reason=None, until=None):
+    def __init__(self, merge, accept=False, prune=False, reason=None, until=None, choice=None):
         goes = [prune and self.goes(merge, number) for number in range(len(merge.entries))]
         kept = [it for it, is_gone in zip(merge.file["suppressions"], goes) if not is_gone]
         hits = [it for it in merge.merged() if accept and is_hit(merge, it)]
-        able = [it for it in hits if it.state != "absent" and not it.statuses]
+        chosen = able(choice.chosen(hits) if choice else hits)
         added = []
         seen = set()
-        for finding in able:
+        for finding in chosen:
             entry = entry_for(finding.record, merge.checks.version, reason, until)
             if compact(entry) not in seen:
                 seen.add(compact(entry))
                 added.append(entry)
-        self.accepted, self.stay, self.pruned = len(able), len(hits) - len(able), sum(goes)
+        self.accepted, self.pruned, self.alike = len(chosen), sum(goes), None
         self.entries = len(kept) + len(added)
         others = stripped(merge.file)
         is_fifth = merge.file.get("version") == 5 or any("snippet" in entry for entry in added)
@@ -119,13 +161,20 @@ class Renewed:
             raise PastLimit("suppressions", "TooMany")
         if len(self.text.encode()) > MOST_BYTES:
             raise PastLimit("suppressions", "TooLong")
+        if choice:
+            made = read_rules(self.text.encode(), merge.today)[len(kept) :]
+            named = {id(it) for it in chosen}
+            others = [it for it in able(hits) if id(it) not in named]
+            self.alike = sum(any(entry.is_met(it.record) for entry in made) for it in others)
+        self.stay = len(hits) - self.accepted - (self.alike or 0)
 
     def goes(self, merge, number):
         entry = merge.entries[number]
         return entry.is_expired or number not in merge.used and heard(merge, entry.tool)
 
     def line(self):
-        numbers = f"{self.accepted} accepted, {self.stay} stay, {self.pruned} pruned"
+        alike = "" if self.alike is None else f"{self.alike} alike, "
+        numbers = f"{self.accepted} accepted, {alike}{self.stay} stay, {self.pruned} pruned"
         return f"sarif_gate: {numbers}, {self.entries} entries\n"
 
 
@@ -158,7 +207,8 @@ def happened(merge):
 
 def left_out(merge, finding, adopt):
     """Returns whether a current result isn't in the known log."""
-    lasting = [it.status for it in merge.entries if it.expires is None and it.matches(finding.record)]
+    matched = [merge.entries[number] for number in finding.matched]
+    lasting = [it.status for it in matched if it.expires is None]
     lasting = [*finding.record.held, *lasting]
     is_lasting = bool(lasting) and all(it == "accepted" for it in lasting)
     if finding.is_suppressed() and not is_lasting:

@@ -554,8 +554,10 @@ def unshown_line(number):
 def accept_line(hits, command="`{}`"):
     """How to accept the hits, with each part of a command in a pattern."""
     make, use = command.format("--accept --reason TEXT --suppress-out FILE"), command.format("--suppress FILE")
+    one = command.format("--at PLACE")
     them = "this hit" if hits == 1 else "these hits"
-    return f"To accept {them}, run the same merge with {make}, review FILE, and pass {use} from then on."
+    use = f"{use} from then on; {one} accepts one alone."
+    return f"To accept {them}, run the same merge with {make}, review FILE, and pass {use}"
 
 
 def text_line(it):

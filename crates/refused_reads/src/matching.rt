@@ -1,6 +1,7 @@
 //! The results of a log's first run and those of its second, which represent a baseline.
 use crate::reading::log_of;
-use sarif_match::{MatchingVersion, key, match_all, tiers};
+use sarif_evidence::MatchingVersion;
+use sarif_match::{key, match_all, tiers};
 use sarif_model::{Fault, Record, Refusal};
 use sarif_read::RawRun;
 use sarif_runs::{IgnoredNames, RecordOptions, make_record, open_run};

@@ -10,7 +10,7 @@ use Rattle.std.proofs.lemmas.Bool.Decides.{nat_tests}
 use Rattle.std.proofs.lemmas.Slice.Eq.{bytes_eq-Decides, slice_eq-Decides}
 use Rattle.serde_json.specs.Data.{Data, string, array, object}
 use Rattle.serde_json.specs.View.{items_of}
-use Rattle.sarif_match.specs.Seen.{packed}
+use Rattle.sarif_evidence.specs.Seen.{packed}
 use Rattle.sarif_model.specs.Guid.{guid_text}
 use Rattle.sarif_model.specs.declared.record.Record.{Record}
 use Rattle.sarif_entries.specs.declared.condition.Condition.{Condition}

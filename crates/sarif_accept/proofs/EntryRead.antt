@@ -20,7 +20,7 @@ use Rattle.sarif_entries.specs.declared.condition.ConditionKind.TheVariants as k
 use Rattle.sarif_entries.specs.Condition.{Form, a_text, a_guid, some_pairs, some_texts, all_kinds, name_of, form_of, if_any, unless_empty}
 use Rattle.sarif_entries.specs.declared.fault.FileFault.{FileFault}
 use Rattle.sarif_entries.specs.declared.version.Version.TheVariants.{Fourth, Fifth}
-use Rattle.sarif_entries.specs.Entries.{unless_fault, text_or, texts_at, pairs_of, pairs_at, pairs_of_member, are_texts, day_at, day_of_member, is_day, guid_at, guid_or, check_members, read_as, with_pair, with_condition, condition_at, conditions_from, conditions_of, members_of, entry_of}
+use Rattle.sarif_entries.specs.Entries.{unless_fault, text_or, texts_at, pairs_of, pairs_at, pairs_of_member, are_texts, day_at, day_of_member, limit_at, limit_of_member, is_day, guid_at, guid_or, check_members, read_as, with_pair, with_condition, condition_at, conditions_from, conditions_of, members_of, entry_of}
 use Rattle.sarif_entries.specs.FileFault.{in_entry}
 use Rattle.sarif_model.specs.Written.{list_if_any}
 use Rattle.sarif_model.specs.Guid.{guid_text}
@@ -194,12 +194,17 @@ module _ (f : ConditionKind → Option Condition) (made : (kind : ConditionKind)
       (λ kind. form_back wrong (form_of kind) (name_of kind) d (f kind) (is_written kind) (made kind)
       (at (name_of kind) ∙ found_is kind)) all_kinds
 
-  members_is : IfSome until (λ last. is_day last ≡ true)
-      → members_of wrong d ≡ Ok (record { conditions = map as_read (named_by f all_kinds); expires = until; status = Accepted; justification = reason })
+  no_limit : (n : ℕ) → limit_at wrong n (codes "max") d ≡ Ok None
+  no_limit n = ap (λ o. limit_of_member wrong n (option_and_then unless_null o)) (at (codes "max"))
+
+  members_is : (n : ℕ) → IfSome until (λ last. is_day last ≡ true)
+      → members_of wrong n d
+      ≡ Ok
+      (record { conditions = map as_read (named_by f all_kinds); expires = until; status = Accepted; justification = reason; limit = None })
   unfolding members_of
-  members_is day =
+  members_is n day =
       let status : text_at wrong (codes "status") d ≡ Ok None = text_is (codes "status") None refl in
-      rw (conditions_is, day_is day, status, text_is (codes "justification") reason refl) refl
+      rw (conditions_is, day_is day, status, text_is (codes "justification") reason refl, no_limit n) refl
 
 -- ---- the whole entry
 
@@ -228,7 +233,7 @@ entry_is r reason today until n fits is =
     let wrong : FileFault = in_entry n BadEntry in
     let known : check_members (version_for r) wrong (entry_for r reason until) ≡ Ok tt =
     ap (λ b. unless_fault b wrong) (known_rows (version_for r) (entry_rows f reason until) (known_to r reason until)) in
-    let read = members_is f (asked_made r fits) reason until wrong (a_day today until is) in
+    let read = members_is f (asked_made r fits) reason until wrong n (a_day today until is) in
     rw (known, read, today_known today until is) refl
 
 -- the entry names a snippet if the result has one

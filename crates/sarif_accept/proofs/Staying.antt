@@ -1,7 +1,7 @@
 -- A result that isn't suppressed stays if and only if it has suppressions.
-use Rattle.std.proofs.Common.{◌≡◌, ℕ, ◌+◌, Bool, true, false, not, ◌&&◌, List, [], ◌∷◌, ◌++◌, map, refl, ap, ◌∙◌, if◌then◌else◌}
+use Rattle.std.proofs.Common.{◌≡◌, ℕ, ◌+◌, Bool, true, false, not, ◌&&◌, ◌||◌, List, [], ◌∷◌, ◌++◌, map, refl, ap, ◌∙◌, if◌then◌else◌}
 use Rattle.std.specs.Prelude.{filter}
-use Rattle.std.specs.List.{list_all}
+use Rattle.std.specs.List.{list_all, list_any}
 use Rattle.sarif_model.specs.declared.kinds.Status.{Status}
 use Rattle.sarif_model.specs.declared.record.Record.{Record}
 use Rattle.sarif_model.specs.Status.{is_accepted}
@@ -32,3 +32,15 @@ stays_with_some file r none =
     by_list (statuses_of file r) none
     ∙ ap not (both_empty r.held (map (λ e. e.status) (matching file r))
     ∙ ap (λ b. is_empty r.held && b) (same_numbers (λ e. matches file.today e r) 0 file.entries))
+
+-- some number is found if an entry matches
+pub found_met : (file : File) (r : Record) → not (is_empty (matching_numbers file r)) ≡ list_any (λ e. matches file.today e r) file.entries
+found_met file r = from 0 file.entries
+  where
+    from : (n : ℕ) (es : List Entry) → not (is_empty (numbers_from (λ e. matches file.today e r) n es)) ≡ list_any (λ e. matches file.today e r) es
+    from n [] = refl
+    from n (e ∷ es) =
+        elim (matches file.today e r) as
+        (λ b. not
+        (is_empty (if b then n ∷ numbers_from (λ e. matches file.today e r) (n + 1) es else numbers_from (λ e. matches file.today e r) (n + 1) es))
+        ≡ (b || list_any (λ e. matches file.today e r) es)) [ true ↦ refl | false ↦ from (n + 1) es ]

@@ -1,9 +1,9 @@
 -- For which results entries are added to a new suppression file, and what the file is then.
-use Rattle.std.specs.Prelude.{ℕ, Bool, not, ◌&&◌, List, [], ◌∷◌, ◌++◌, map, filter, Option, if◌then◌else◌}
+use Rattle.std.specs.Prelude.{ℕ, Bool, not, ◌&&◌, List, [], ◌∷◌, ◌++◌, map, filter, Option, None, if◌then◌else◌}
 use Rattle.std.specs.Cmp.Lexicographic.{pointwise}
 use Rattle.std.specs.List.{list_any, list_all}
-use Rattle.sarif_match.specs.Seen.{as_matched}
-use Rattle.sarif_match.specs.declared.version.MatchingVersion.{MatchingVersion}
+use Rattle.sarif_evidence.specs.Seen.{as_matched}
+use Rattle.sarif_evidence.specs.declared.version.MatchingVersion.{MatchingVersion}
 use Rattle.sarif_model.specs.declared.kinds.State.{State}
 use Rattle.sarif_model.specs.declared.kinds.Status.TheVariants.{Accepted}
 use Rattle.sarif_model.specs.declared.record.Record.{Record}
@@ -90,6 +90,7 @@ entry_read r reason until = record {
   expires = until;
   status = Accepted;
   justification = reason;
+  limit = None;
 }
 
 -- the entries that are kept, and then those of the accepted results

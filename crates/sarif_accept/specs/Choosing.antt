@@ -2,7 +2,7 @@
 -- may match others too: these hits are alike.
 use Rattle.std.specs.Prelude.{ℕ, Bool, true, false, not, ◌&&◌, ◌||◌, List, [], ◌∷◌, ◌++◌, filter, get_or, map, Option, Some, None, if◌then◌else◌}
 use Rattle.std.specs.List.{list_any}
-use Rattle.sarif_match.specs.Seen.{as_matched}
+use Rattle.sarif_evidence.specs.Seen.{as_matched}
 use Rattle.sarif_model.specs.declared.kinds.State.{State}
 use Rattle.sarif_model.specs.declared.record.Record.{Record}
 use Rattle.sarif_entries.specs.declared.entry.Entry.{Entry}
@@ -73,6 +73,11 @@ abbrev pub is_left : MayBeHit → File → List Entry → Record → State → B
 is_left counts file es r state =
     is_hit counts file r state && (stays file r || not (is_met file es r))
 
+-- a hit that is neither accepted nor alike: it stays, or it isn't chosen and none of the added entries matches it
+abbrev pub is_other : MayBeHit → File → List Entry → Bool → Record → State → Bool
+is_other counts file es mark r state =
+    is_hit counts file r state && (stays file r || (not mark && not (is_met file es r)))
+
 -- the results that pass a test with their states, in order
 abbrev pub passing : (Record → State → Bool) → List Record → List State → List Record
 passing test [] states = []
@@ -89,3 +94,13 @@ alike_among counts file es (mark ∷ marks) (r ∷ rs) [] = []
 alike_among counts file es (mark ∷ marks) (r ∷ rs) (state ∷ states) =
     if is_alike counts file es mark r state then r ∷ alike_among counts file es marks rs states
     else alike_among counts file es marks rs states
+
+-- the hits among these results that are neither accepted nor alike
+abbrev pub others_among : MayBeHit → File → List Entry → List Bool → List Record → List State
+    → List Record
+others_among counts file es [] rs states = []
+others_among counts file es (mark ∷ marks) [] states = []
+others_among counts file es (mark ∷ marks) (r ∷ rs) [] = []
+others_among counts file es (mark ∷ marks) (r ∷ rs) (state ∷ states) =
+    if is_other counts file es mark r state then r ∷ others_among counts file es marks rs states
+    else others_among counts file es marks rs states

@@ -100,7 +100,10 @@ fn text_of_guid(alloc: Global, guid: u128) -> Result<Value, AllocError>
 }
 
 /// The members of a map of strings.
-fn texts_of(alloc: Global, pairs: &[(Text, Text)]) -> Result<Map<String, Value>, AllocError>
+pub(crate) fn texts_of(
+    alloc: Global,
+    pairs: &[(Text, Text)],
+) -> Result<Map<String, Value>, AllocError>
     ensures { IfOk result (λ members. members_view members.entries ≡ said.texts_put pairs.now) }
 {
     let mut members = Map::new(alloc);

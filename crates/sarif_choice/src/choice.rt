@@ -12,6 +12,16 @@ pub struct Choice {
     pub rules: Sequence<Text>,
 }
 
+/// A choice among the hits of a merge, by their places as its reports show them.
+#[derive(Debug, Drop)]
+pub struct Choosing {
+    /// The places and the rules.
+    pub choice: Choice,
+    /// The prefixes that reports strip from paths: a path that begins with one loses the first of these. An empty one
+    /// is none.
+    pub roots: Sequence<Text>,
+}
+
 /// A place or a rule that fits no chosen hit. Each kind is numbered from 0.
 #[derive(Clone, Copy, Debug, PartialEq, Eq)]
 pub enum Unfit {

@@ -6,5 +6,5 @@ mod choosing;
 mod names;
 mod tables;
 
-pub use choice::{Choice, Unfit};
+pub use choice::{Choice, Choosing, Unfit};
 pub use choosing::choose;

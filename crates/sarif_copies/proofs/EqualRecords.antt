@@ -10,11 +10,10 @@ use Rattle.sarif_model.specs.declared.kinds.Status.TheVariants.{Accepted, UnderR
 use Rattle.sarif_model.specs.declared.record.Record.{Record}
 use Rattle.sarif_model.specs.declared.region.Region.{Region}
 use Rattle.sarif_model.specs.Level.{severity}
-use Rattle.sarif_match.specs.KeyParts.{message_eq, pairs_eq, place_eq, region_eq}
-use Rattle.sarif_match.specs.State.{is_unchanged, kind_number}
-use Rattle.sarif_match.proofs.PartsLemmas.{text_refl, option_same, option_refl, list_same, list_refl, pairs_same, pairs_refl, number_same, number_refl, region_same, region_refl, message_refl, place_refl}
-use Rattle.sarif_match.proofs.StateLemmas.{unchanged_is_equal}
-use Rattle.sarif_match.proofs.ValueLemmas.{same_text}
+use Rattle.sarif_evidence.specs.EqualParts.{message_eq, pairs_eq, place_eq, region_eq}
+use Rattle.sarif_evidence.specs.State.{is_unchanged, kind_number}
+use Rattle.sarif_evidence.proofs.EqualLemmas.{text_refl, option_same, option_refl, list_same, list_refl, pairs_same, pairs_refl, number_same, number_refl, region_same, region_refl, message_refl, place_refl, same_text}
+use Rattle.sarif_evidence.proofs.StateLemmas.{unchanged_is_equal}
 use Rattle.sarif_copies.specs.Copies.{record_eq, status_number}
 
 -- ---- statuses and regions
@@ -59,7 +58,8 @@ record_same a b e =
     let full = and_parts (pairs_eq a.full b.full) _ guid.1 in
     let partial = and_parts (pairs_eq a.partial b.partial) _ full.1 in
     let held = and_parts (pointwise status_eq a.held b.held) _ partial.1 in
-    let region = and_parts (option_eq region_eq a.region b.region) (option_eq bytes_eq a.snippet b.snippet) held.1 in
+    let region = and_parts (option_eq region_eq a.region b.region) _ held.1 in
+    let snippet = and_parts (option_eq bytes_eq a.snippet b.snippet) (pointwise ◌==◌ a.spent b.spent) region.1 in
     let four : is_unchanged a b ≡ true =
     and_from (kind_number a.kind == kind_number b.kind) _ kind.0
     (and_from (severity a.level == severity b.level) _ level.0
@@ -72,7 +72,8 @@ record_same a b e =
     let partial_is : a.partial ≡ b.partial = pairs_same a.partial b.partial partial.0 in
     let held_is : a.held ≡ b.held = list_same status_eq status_same a.held b.held held.0 in
     let region_is : a.region ≡ b.region = regions_same a.region b.region region.0 in
-    let snippet_is : a.snippet ≡ b.snippet = option_same a.snippet b.snippet region.1 in
+    let snippet_is : a.snippet ≡ b.snippet = option_same a.snippet b.snippet snippet.0 in
+    let spent_is : a.spent ≡ b.spent = list_same ◌==◌ (λ m n is. (Decides-eqb m n).0 is) a.spent b.spent snippet.1 in
     λ i. record {
       tool = tool_is i;
       rule_id = rule_is i;
@@ -86,6 +87,7 @@ record_same a b e =
       held = held_is i;
       region = region_is i;
       snippet = snippet_is i;
+      spent = spent_is i;
     }
 
 pub record_refl : (a : Record) → record_eq a a ≡ true
@@ -100,8 +102,9 @@ record_refl a =
     (and_from (pairs_eq a.full a.full) _ (pairs_refl a.full)
     (and_from (pairs_eq a.partial a.partial) _ (pairs_refl a.partial)
     (and_from (pointwise status_eq a.held a.held) _ (list_refl status_eq (λ s. eq-eqb (status_number s) (status_number s) refl) a.held)
-    (and_from (option_eq region_eq a.region a.region) (option_eq bytes_eq a.snippet a.snippet) (regions_refl a.region)
-    (option_refl a.snippet)))))))))))
+    (and_from (option_eq region_eq a.region a.region) _ (regions_refl a.region)
+    (and_from (option_eq bytes_eq a.snippet a.snippet) (pointwise ◌==◌ a.spent a.spent) (option_refl a.snippet)
+    (list_refl ◌==◌ (λ n. eq-eqb n n refl) a.spent))))))))))))
 
 pub records_equal : (a b : Record) → (record_eq a b ≡ true → a ≡ b) × (a ≡ b → record_eq a b ≡ true)
 records_equal a b = (record_same a b, λ is. ap (record_eq a) (sym is) ∙ record_refl a)

@@ -12,8 +12,8 @@ use Rattle.sarif_model.specs.contracts.kinds.KindPartialEq.TheImpl as kinds
 use Rattle.sarif_model.specs.contracts.kinds.LevelPartialEq.TheImpl as levels
 use Rattle.sarif_model.specs.contracts.kinds.StatusPartialEq.TheImpl as statuses
 use Rattle.sarif_model.specs.Level.{severity}
-use Rattle.sarif_match.specs.KeyParts.{message_eq, pairs_eq, place_eq, region_eq}
-use Rattle.sarif_match.specs.State.{kind_number}
+use Rattle.sarif_evidence.specs.EqualParts.{message_eq, pairs_eq, place_eq, region_eq}
+use Rattle.sarif_evidence.specs.State.{kind_number}
 use Rattle.sarif_copies.specs.declared.whole_record.WholeRecord.{WholeRecord}
 use Rattle.sarif_copies.specs.Copies.{record_eq, status_number}
 use Rattle.sarif_copies.specs.Internal.Table.{fields_of, same_whole}
@@ -109,4 +109,5 @@ same_is_equal a b =
     && (pairs_eq x.partial y.partial
     && (held_test x.held y.held i
     && (option_eq region_eq x.region y.region
-    && option_eq bytes_eq x.snippet y.snippet))))))))))
+    && (option_eq bytes_eq x.snippet y.snippet
+    && pointwise ◌==◌ x.spent y.spent)))))))))))

@@ -7,8 +7,8 @@ use Rattle.sarif_model.specs.declared.kinds.Status.{Status}
 use Rattle.sarif_model.specs.declared.kinds.Status.TheVariants.{Accepted, UnderReview, Rejected}
 use Rattle.sarif_model.specs.declared.record.Record.{Record}
 use Rattle.sarif_model.specs.Level.{severity}
-use Rattle.sarif_match.specs.KeyParts.{message_eq, pairs_eq, place_eq, region_eq}
-use Rattle.sarif_match.specs.State.{kind_number}
+use Rattle.sarif_evidence.specs.EqualParts.{message_eq, pairs_eq, place_eq, region_eq}
+use Rattle.sarif_evidence.specs.State.{kind_number}
 
 -- the number of each status, in the order of their declaration
 abbrev pub status_number : Status → ℕ
@@ -30,7 +30,8 @@ record_eq a b =
     && (pairs_eq a.partial b.partial
     && (pointwise (λ s t. status_number s == status_number t) a.held b.held
     && (option_eq region_eq a.region b.region
-    && option_eq bytes_eq a.snippet b.snippet))))))))))
+    && (option_eq bytes_eq a.snippet b.snippet
+    && pointwise ◌==◌ a.spent b.spent)))))))))))
 
 -- a result with a URI and a region
 abbrev pub has_line : Record → Bool

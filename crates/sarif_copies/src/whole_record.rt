@@ -19,6 +19,7 @@ pub(crate) struct WholeRecord<'a> {
     held: &'a Sequence<Status>,
     region: Option<Region>,
     snippet: &'a Option<Text>,
+    spent: &'a Sequence<u32>,
 }
 
 /// The fields of a record.
@@ -38,5 +39,6 @@ pub(crate) fn whole_record(found: &Record) -> WholeRecord<'_>
         held: &found.held,
         region: found.region,
         snippet: &found.snippet,
+        spent: &found.spent,
     }
 }

@@ -69,6 +69,7 @@ fn record(alloc: Global, sketch: &Sketch) -> Result<Record, AllocError> {
         held: Sequence::new(alloc),
         region: region_at(sketch.line),
         snippet: copy_if_there(alloc, sketch.snippet)?,
+        spent: Sequence::new(alloc),
     })
 }
 
@@ -130,7 +131,7 @@ fn results_that_differ_or_have_no_line_are_no_copies(rt: HostRuntime) -> Result<
 }
 
 /// How many records `changed` knows.
-const CHANGES: u32 = 16;
+const CHANGES: u32 = 17;
 
 /// The record of the result in the header, with one field changed.
 fn changed(alloc: Global, change: u32) -> Result<Record, AllocError> {
@@ -152,6 +153,7 @@ fn changed(alloc: Global, change: u32) -> Result<Record, AllocError> {
         12 => made.held.push(Status::Rejected)?,
         13 => made.snippet = Some(other),
         14 => made.region = region_at(Some(1)),
+        15 => made.spent.push(0)?,
         _ => made.place.uri = None,
     }
     Ok(made)

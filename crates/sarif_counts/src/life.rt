@@ -10,7 +10,10 @@ pub struct NewFile {
     pub text: Text,
     /// How many hits got an entry; hits with equal entries share one.
     pub accepted: u32,
-    /// How many hits stay hits with the new file; 0 if none was to be accepted.
+    /// How many hits that weren't chosen an added entry accepts all the same; `None` if all hits are chosen.
+    pub alike: Option<u32>,
+    /// How many hits stay hits with the new file, if all hits are chosen; otherwise how many are neither accepted nor
+    /// alike. 0 if none was to be accepted.
     pub stay: u32,
     /// How many entries of the suppression file it lacks.
     pub pruned: u32,

@@ -1,4 +1,5 @@
 pub mod Among
+pub mod EntryLimits
 pub mod FromEntries
 pub mod FromKinds
 pub mod JustTexts

@@ -7,7 +7,7 @@ use Rattle.std.specs.Bool.{Decides}
 use Rattle.std.specs.Cmp.Lexicographic.{pointwise}
 use Rattle.std.specs.List.{list_any}
 use Rattle.std.specs.Option.{option_map_or}
-use Rattle.sarif_match.specs.Seen.{packed}
+use Rattle.sarif_evidence.specs.Seen.{packed}
 use Rattle.sarif_model.specs.declared.record.Record.{Record}
 use Rattle.sarif_entries.specs.Internal.Filing.{key_of, key_with, keys_under, keys_at, keys_with, message_keys}
 use Rattle.sarif_entries.specs.Condition.{is_snippet, is_text}

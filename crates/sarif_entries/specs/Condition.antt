@@ -2,7 +2,7 @@
 use Rattle.std.specs.Prelude.{◌≡◌, ℕ, Bool, true, false, ◌&&◌, List, [], ◌∷◌, ◌++◌, Option, Some, None, Contains, nat_eq, bytes_eq, codes, option_map, option_and_then, if◌then◌else◌}
 use Rattle.std.specs.Cmp.Lexicographic.{pointwise}
 use Rattle.std.specs.List.{list_any, list_all, starts_with}
-use Rattle.sarif_match.specs.Seen.{packed}
+use Rattle.sarif_evidence.specs.Seen.{packed}
 use Rattle.sarif_model.specs.declared.record.Record.{Record}
 use Rattle.sarif_entries.specs.contracts.condition.ConditionKindPartialEq.TheImpl as derived
 use Rattle.sarif_entries.specs.contracts.condition.ConditionPartialEq.TheImpl as derived_condition

@@ -13,6 +13,7 @@ use Rattle.sarif_entries.specs.declared.condition.Condition.{Condition}
 use Rattle.sarif_entries.specs.declared.condition.ConditionKind.{ConditionKind}
 use Rattle.sarif_entries.specs.declared.entry.Entry.{Entry}
 use Rattle.sarif_entries.specs.declared.fault.FileFault.{FileFault}
+use Rattle.sarif_entries.specs.declared.limit.Limit.{Limit}
 use Rattle.sarif_model.specs.declared.fault.Fault.TheVariants.{BadEntry, EmptyMatch, NeedsToday}
 use Rattle.sarif_entries.specs.declared.version.Version.{Version}
 use Rattle.sarif_entries.specs.declared.version.Version.TheVariants.{First, Second, Fourth, Fifth}
@@ -47,7 +48,8 @@ has_member version name =
     has_condition version name
     || (bytes_eq name (codes "status")
     || (bytes_eq name (codes "justification")
-    || (bytes_eq name (codes "expires") && includes version Second)))
+    || ((bytes_eq name (codes "expires") && includes version Second)
+    || (bytes_eq name (codes "max") && includes version Fifth))))
 
 abbrev pub are_members_of : Version → Members → Bool
 are_members_of version no_members = true
@@ -135,6 +137,24 @@ day_of_member wrong (Some d) = day_or wrong (option_and_then as_u64 (as_number d
 abbrev pub day_at : FileFault → List ℕ → Data → Result (Option ℕ) FileFault
 day_at wrong name d = day_of_member wrong (member_at name d)
 
+-- the greatest number that `max` can be
+abbrev pub greatest_max : ℕ
+greatest_max = 4294967295
+
+abbrev pub limit_or : FileFault → ℕ → Option ℕ → Result (Option Limit) FileFault
+limit_or wrong n None = Err wrong
+limit_or wrong n (Some most) =
+    if is_within 1 greatest_max most then Ok (Some (record { most = most; number = n }))
+    else Err wrong
+
+abbrev pub limit_of_member : FileFault → ℕ → Option Data → Result (Option Limit) FileFault
+limit_of_member wrong n None = Ok None
+limit_of_member wrong n (Some d) = limit_or wrong n (option_and_then as_u64 (as_number d))
+
+-- the limit of entry n, by the member of that name, if there is one
+abbrev pub limit_at : FileFault → ℕ → List ℕ → Data → Result (Option Limit) FileFault
+limit_at wrong n name d = limit_of_member wrong n (member_at name d)
+
 abbrev pub status_or : FileFault → Option (List ℕ) → Result Status FileFault
 status_or wrong None = Ok Accepted
 status_or wrong (Some text) = ok_or (status_named text) wrong
@@ -171,18 +191,20 @@ conditions_from wrong d (kind ∷ rest) =
 unfoldable pub conditions_of : FileFault → Data → Result (List Condition) FileFault
 conditions_of wrong d = conditions_from wrong d all_kinds
 
--- the members of an entry, each of its kind or null
-unfoldable pub members_of : FileFault → Data → Result Entry FileFault
-members_of wrong d = do
+-- the members of entry n, each of its kind or null
+unfoldable pub members_of : FileFault → ℕ → Data → Result Entry FileFault
+members_of wrong n d = do
   conditions ← conditions_of wrong d
   expires ← day_at wrong (codes "expires") d
   status ← status_at wrong (codes "status") d
   justification ← text_at wrong (codes "justification") d
+  limit ← limit_at wrong n (codes "max") d
   Ok (record {
     conditions = conditions;
     expires = expires;
     status = status;
     justification = justification;
+    limit = limit;
   })
 
 -- an entry names at least one condition
@@ -197,7 +219,7 @@ check_today n today e = unless_fault (not (is_some e.expires && is_none today)) 
 unfoldable pub entry_of : Version → Option ℕ → ℕ → Data → Result Entry FileFault
 entry_of version today n d = do
   _ ← check_members version (in_entry n BadEntry) d
-  e ← members_of (in_entry n BadEntry) d
+  e ← members_of (in_entry n BadEntry) n d
   _ ← check_condition n e
   _ ← check_today n today e
   Ok e

@@ -5,4 +5,5 @@ pub mod FileFault
 pub mod Given
 pub mod Internal
 pub mod Matching
+pub mod Numbering
 pub mod Object

@@ -1,9 +1,10 @@
 -- Which results an entry of the suppression file matches.
-use Rattle.std.specs.Prelude.{◌≡◌, ℕ, ◌≤◌, Bool, true, false, not, ◌&&◌, List, [], ◌∷◌, Option, Some, None, Contains, nat_lt}
-use Rattle.std.specs.List.{list_all}
+use Rattle.std.specs.Prelude.{◌≡◌, ℕ, ◌≤◌, Bool, true, false, not, ◌&&◌, List, [], ◌∷◌, Option, Some, None, Contains, nat_eq, nat_lt}
+use Rattle.std.specs.List.{list_all, list_any}
 use Rattle.sarif_model.specs.declared.record.Record.{Record}
 use Rattle.sarif_entries.specs.declared.condition.Condition.{Condition}
 use Rattle.sarif_entries.specs.declared.entry.Entry.{Entry}
+use Rattle.sarif_entries.specs.declared.limit.Limit.{Limit}
 use Rattle.sarif_entries.specs.Condition.{holds, Holds}
 
 abbrev pub is_empty : {A : Type 0} → List A → Bool
@@ -24,8 +25,17 @@ abbrev pub is_expired : Option ℕ → Entry → Bool
 is_expired today e = is_past today e.expires
 
 -- the entry isn't expired, and every condition that it names holds
+abbrev pub is_met : Option ℕ → Entry → Record → Bool
+is_met today e r = not (is_expired today e) && hold e.conditions r
+
+-- the `max` of an entry, if it has one, is used up by results before this one
+abbrev pub is_used_up : Option Limit → Record → Bool
+is_used_up None r = false
+is_used_up (Some limit) r = list_any (λ n. nat_eq n limit.number) r.spent
+
+-- the entry isn't used up, isn't expired, and every condition that it names holds
 abbrev pub matches : Option ℕ → Entry → Record → Bool
-matches today e r = not (is_expired today e) && hold e.conditions r
+matches today e r = not (is_used_up e.limit r) && is_met today e r
 
 -- ---- the same as propositions
 
@@ -33,7 +43,9 @@ matches today e r = not (is_expired today e) && hold e.conditions r
 abbrev pub Meets : List Condition → Record → Type 0
 Meets cs r = (c : Condition) → Contains cs c → Holds c r
 
--- the expiry date of the entry, if it has one, is not before today, and the result satisfies its conditions
+-- the expiry date of the entry, if it has one, is not before today, the result satisfies its conditions, and the `max` of
+-- the entry, if it has one, isn't used up before the result
 pub record Matches (today : Option ℕ) (e : Entry) (r : Record) : Type 0 where
   pub in_time : (last day : ℕ) → e.expires ≡ Some last → today ≡ Some day → day ≤ last
   pub meets : Meets e.conditions r
+  pub left : (limit : Limit) → e.limit ≡ Some limit → Contains r.spent limit.number → ⊥

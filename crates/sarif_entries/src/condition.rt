@@ -11,7 +11,7 @@ ghost use Rattle.sarif_entries.specs.Matching.{hold as all_hold};
 use crate::fault::FileFault;
 use crate::read_condition::{guid_at, own_text_at, pairs_at, texts_at};
 use crate::version::Version;
-use sarif_match::are_same_packed;
+use sarif_evidence::are_same_packed;
 use sarif_model::{Pairs, Record, Refusal, Sequence, Text};
 use serde_json::Value;
 use std::alloc::{AllocError, Global};

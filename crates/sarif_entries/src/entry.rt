@@ -3,6 +3,7 @@ ghost use Rattle.std.specs.Prelude.{◌≡◌, ◌↔◌, IsTrue};
 ghost use Rattle.sarif_entries.specs.Matching as said;
 
 use crate::condition::{Condition, hold};
+use crate::limit::{Limit, is_used_up};
 use sarif_model::{Record, Sequence, Status, Text};
 
 /// An entry of the suppression file: which results it suppresses, until when, and the suppression that it adds.
@@ -17,6 +18,8 @@ pub struct Entry {
     pub status: Status,
     /// `justification`.
     pub justification: Option<Text>,
+    /// `max`, if it has one.
+    pub limit: Option<Limit>,
 }
 
 impl Entry {
@@ -30,13 +33,21 @@ impl Entry {
         }
     }
 
-    /// Whether the entry matches the result on that day: it isn't expired, and the result meets
-    /// every condition that it names.
+    /// Returns whether the entry is not expired and the result meets every condition that it names, regardless of how
+    /// many results it matches at most.
+    pub fn is_met(&self, today: Option<u32>, record: &Record) -> bool
+        ensures { result ≡ said.is_met today self.now «record».now }
+    {
+        !self.is_expired(today) && hold(self.conditions.as_slice(), record)
+    }
+
+    /// Whether the entry matches the result on that day: it isn't expired, its `max` isn't used up before the result, and
+    /// the result meets every condition that it names.
     #[tactic(auto, using(crate::proofs::Meaning::means))]
     pub fn matches(&self, today: Option<u32>, record: &Record) -> bool
         ensures means { IsTrue result ↔ said.Matches today self.now «record».now }
         ensures test { result ≡ said.matches today self.now «record».now }
     {
-        !self.is_expired(today) && hold(self.conditions.as_slice(), record)
+        !is_used_up(self.limit, record) && self.is_met(today, record)
     }
 }

@@ -6,7 +6,7 @@ ghost use Rattle.sarif_entries.specs.Internal.Filing as said;
 use crate::condition::{Condition, ConditionKind, of_kind, text_in};
 use crate::entry::Entry;
 use crate::message_keys::key_of;
-use sarif_match::packed;
+use sarif_evidence::packed;
 use sarif_model::{Sequence, Text};
 use std::alloc::{AllocError, Global};
 

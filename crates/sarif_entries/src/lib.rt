@@ -8,6 +8,7 @@ mod fault;
 mod filing;
 pub mod key;
 mod laws;
+mod limit;
 pub mod message_keys;
 mod object;
 mod read_condition;
@@ -20,7 +21,11 @@ pub use condition::{Condition, ConditionKind, own_of, text_in};
 pub use entry::Entry;
 pub use fault::FileFault;
 pub use filing::{PairCondition, TextCondition};
-pub use laws::{just_its_object_is_an_entrys, object_holds_no_fraction};
+pub use laws::{
+    just_its_object_is_an_entrys, limits_have_the_numbers_of_their_entries,
+    object_holds_no_fraction,
+};
+pub use limit::Limit;
 pub use object::{is_object_of, object_of};
 pub use read_entry::is_day;
 pub use read_file::entries_of_file;

@@ -4,7 +4,7 @@ ghost use Rattle.std.specs.Prelude.{◌≡◌, ◌++◌, [], IfOk, OnOk};
 ghost use Rattle.std.specs.Option.{option_copied, option_map_or};
 ghost use Rattle.sarif_entries.specs.Internal.Filing as said;
 
-use sarif_match::packed;
+use sarif_evidence::packed;
 use sarif_model::{Message, Record, Sequence, Text};
 use std::alloc::{AllocError, Global};
 

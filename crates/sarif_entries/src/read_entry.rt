@@ -7,6 +7,7 @@ ghost use Rattle.sarif_entries.specs.Entries as said;
 
 use crate::entry::Entry;
 use crate::fault::FileFault;
+use crate::limit::Limit;
 use crate::read_condition::{conditions_of, own_text_at};
 use crate::version::Version;
 use sarif_model::members::{member_at, text_at};
@@ -76,6 +77,33 @@ fn day_at(entry: &Value, name: &str, wrong: FileFault) -> Result<Option<u32>, Fi
     }
 }
 
+/// The limit of entry `number`, by its member `name`.
+fn limit_at(
+    entry: &Value,
+    name: &str,
+    number: u32,
+    wrong: FileFault,
+) -> Result<Option<Limit>, FileFault>
+    ensures { result ≡ said.limit_at wrong number name.now (view entry.now) }
+{
+    match member_at(entry, name) {
+        None => Ok(None),
+        Some(member) => match member.as_u64() {
+            Some(most) => {
+                if 1 <= most && most <= u32::MAX as u64 {
+                    Ok(Some(Limit {
+                        most: most as u32,
+                        number,
+                    }))
+                } else {
+                    Err(wrong)
+                }
+            }
+            None => Err(wrong),
+        },
+    }
+}
+
 /// The status `name` of an entry; `accepted` if it is missing.
 fn status_at(entry: &Value, name: &str, wrong: FileFault) -> Result<Status, FileFault>
     ensures { result ≡ said.status_at wrong name.now (view entry.now) }
@@ -86,21 +114,29 @@ fn status_at(entry: &Value, name: &str, wrong: FileFault) -> Result<Status, File
     }
 }
 
-/// The entry, whose members are all known.
+/// Entry `number`, whose members are all known.
 #[tactic(auto, unfolding(crate::specs::Entries::members_of))]
-fn members_of(alloc: Global, entry: &Value, wrong: FileFault) -> Result<Entry, Refusal<FileFault>>
-    ensures ok { IfOk result (λ read. said.members_of wrong (view entry.now) ≡ Ok read) }
-    ensures err { IfFault result (λ fault. said.members_of wrong (view entry.now) ≡ Err fault) }
+fn members_of(
+    alloc: Global,
+    number: u32,
+    entry: &Value,
+    wrong: FileFault,
+) -> Result<Entry, Refusal<FileFault>>
+    ensures ok { IfOk result (λ read. said.members_of wrong number (view entry.now) ≡ Ok read) }
+    ensures err { IfFault result
+        (λ fault. said.members_of wrong number (view entry.now) ≡ Err fault) }
 {
     let conditions = conditions_of(alloc, entry, wrong)?;
     let expires = day_at(entry, "expires", wrong)?;
     let status = status_at(entry, "status", wrong)?;
     let justification = own_text_at(alloc, entry, "justification", wrong)?;
+    let limit = limit_at(entry, "max", number, wrong)?;
     Ok(Entry {
         conditions,
         expires,
         status,
         justification,
+        limit,
     })
 }
 
@@ -141,7 +177,12 @@ pub(crate) fn read_entry(
         (λ fault. said.entry_of version today number (view entry.now) ≡ Err fault) }
 {
     check_members(version, FileFault::in_entry(number, Fault::BadEntry), entry)?;
-    let entry = members_of(alloc, entry, FileFault::in_entry(number, Fault::BadEntry))?;
+    let entry = members_of(
+        alloc,
+        number,
+        entry,
+        FileFault::in_entry(number, Fault::BadEntry),
+    )?;
     check_condition(number, &entry)?;
     check_today(number, today, &entry)?;
     Ok(entry)

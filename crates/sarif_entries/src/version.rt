@@ -14,7 +14,7 @@ pub enum Version {
     Second,
     /// `"version": 4`, which has `message`, `messageId` and `messageArguments` too.
     Fourth,
-    /// `"version": 5`, which has `snippet` too.
+    /// `"version": 5`, which has `snippet` and `max` too.
     Fifth,
 }
 
@@ -63,5 +63,6 @@ impl Version {
             || name == "status"
             || name == "justification"
             || (name == "expires" && self.includes(Version::Second))
+            || (name == "max" && self.includes(Version::Fifth))
     }
 }

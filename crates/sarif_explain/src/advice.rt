@@ -5,6 +5,10 @@ use sarif_model::{At, Cause, Fault, MergeFault, Source};
 /// What to do about an input past a limit.
 const SPLIT: &str = "split the analysis, or drop what you don't need";
 
+/// What to do about a place or a rule that fits no chosen hit.
+const COPY: &str = "copy it from a line of --text; if you pass --at and --rule, one of each must \
+    fit the same hit";
+
 /// Returns what to do about an output for later merges that would be too large for them: the known log or the new
 /// suppression file.
 pub(crate) fn advice_on_output(at: At) -> &'static str {
@@ -79,6 +83,7 @@ fn advice_on_fault(fault: Fault, at: At, hint: Hint) -> &'static str {
         Fault::NotSuccessful => {
             "run the analysis again, or read the analyser's own output to see what failed"
         }
+        Fault::NoHit => COPY,
     }
 }
 

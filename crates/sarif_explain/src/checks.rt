@@ -284,6 +284,7 @@ const ENTRY_MEMBERS: &[Check] = &[
     Check(&["expires"], May, Wanted::Day),
     Check(&["status"], May, Wanted::Status),
     Check(&["justification"], May, Wanted::Text),
+    Check(&["max"], May, Wanted::Limit),
 ];
 
 /// The members that an entry may have, each with the first version of the file that has it.
@@ -299,6 +300,7 @@ pub(crate) const ENTRY_NAMES: &[(&str, u64)] = &[
     ("messageId", 4),
     ("messageArguments", 4),
     ("snippet", 5),
+    ("max", 5),
     ("expires", 2),
     ("status", 1),
     ("justification", 1),
@@ -316,8 +318,8 @@ pub(crate) const FOURTH_NAMES: &str = "in version 4 only the members tool, ruleI
     expires, status and justification";
 
 pub(crate) const FIFTH_NAMES: &str = "only the members tool, ruleId, uri, uriPrefix, guid, \
-    fingerprints, partialFingerprints, message, messageId, messageArguments, snippet, expires, \
-    status and justification";
+    fingerprints, partialFingerprints, message, messageId, messageArguments, snippet, max, \
+    expires, status and justification";
 
 pub(crate) const CONDITIONS: &str = "at least one of tool, ruleId, uri, uriPrefix, guid, \
     fingerprints, partialFingerprints, message, messageId, messageArguments and snippet";

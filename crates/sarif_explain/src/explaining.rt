@@ -41,7 +41,11 @@ fn push_found(
 }
 
 /// Adds the sentence that says what is expected.
-fn push_sentence(alloc: Global, lines: &mut String, wanted: Wanted) -> Result<(), AllocError> {
+pub(crate) fn push_sentence(
+    alloc: Global,
+    lines: &mut String,
+    wanted: Wanted,
+) -> Result<(), AllocError> {
     let sentence = format!(in alloc; "{wanted}")?;
     push_line(alloc, lines, "wanted", sentence.as_str())
 }

@@ -29,7 +29,8 @@ fn is_wanted_text(wanted: Wanted, text: &str) -> bool {
 fn is_wanted_number(wanted: Wanted, number: i64) -> bool {
     match wanted {
         Wanted::Index => -1 <= number && number <= u32::MAX as i64,
-        Wanted::FileVersion => matches!(number, 1 | 2 | 4),
+        Wanted::FileVersion => matches!(number, 1 | 2 | 4 | 5),
+        Wanted::Limit => 1 <= number && number <= u32::MAX as i64,
         Wanted::Day => match u32::try_from(number) {
             Ok(day) => is_day(day),
             Err(_) => false,

@@ -3,6 +3,7 @@
 #![tactic(auto)]
 
 mod advice;
+mod argument;
 mod checks;
 mod entry;
 mod explaining;
@@ -20,5 +21,6 @@ mod single;
 mod wanted;
 mod whole;
 
+pub use argument::argument_explanation;
 pub use explaining::{FaultSource, explanation};
 pub use output::{is_past_limit, output_explanation};

@@ -1,5 +1,6 @@
 //! The explanation of an output that would be too large for later merges.
 use crate::advice::advice_on_output;
+use crate::explaining::push_sentence;
 use crate::lines::push_line;
 use crate::whole::wanted_by;
 use json_parts::without_mark;
@@ -19,9 +20,7 @@ pub fn output_explanation(
     if !file.is_empty() {
         push_line(alloc, &mut lines, "file", file)?;
     }
-    let wanted = wanted_by(fault);
-    let sentence = format!(in alloc; "{wanted}")?;
-    push_line(alloc, &mut lines, "wanted", sentence.as_str())?;
+    push_sentence(alloc, &mut lines, wanted_by(fault))?;
     push_line(alloc, &mut lines, "advice", advice_on_output(fault.at))?;
     Ok(lines)
 }

@@ -47,8 +47,12 @@ pub(crate) enum Wanted {
     /// Of version 5.
     FifthMembers,
     Day,
+    /// Of `max`.
+    Limit,
     Condition,
     Today,
+    HitPlace,
+    HitRule,
     FewRuns,
     FewResults,
     FewEntries,
@@ -102,6 +106,13 @@ impl Wanted {
             Wanted::FifthMembers => FIFTH_NAMES,
             Wanted::Condition => CONDITIONS,
             Wanted::Today => "today's date, since the entry has an expiry date",
+            Wanted::HitPlace => {
+                "the place of a hit as --text prints it, with or without its column or its line"
+            }
+            Wanted::HitRule => {
+                "the rule of a hit as --text prints it in brackets, or the empty string for a hit \
+                 without a rule"
+            }
             Wanted::Readable => "a file that exists and can be read to its end",
             Wanted::Writable => "a file that can be written, and enough room on the disk",
             Wanted::Memory => "enough memory for the inputs and the outputs",
@@ -109,6 +120,7 @@ impl Wanted {
             Wanted::Json
             | Wanted::Index
             | Wanted::Day
+            | Wanted::Limit
             | Wanted::FewRuns
             | Wanted::FewResults
             | Wanted::FewEntries
@@ -126,6 +138,7 @@ impl fmt::Display for Wanted {
                 f,
                 "a date as the integer YYYYMMDD, from {FIRST_DAY} to {LAST_DAY}"
             ),
+            Wanted::Limit => write!(f, "an integer from 1 to {}", u32::MAX),
             Wanted::FewRuns => write!(
                 f,
                 "at most {MOST_SOURCES} logs and {MOST_SOURCES} baselines, with at most \

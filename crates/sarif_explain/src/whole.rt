@@ -41,6 +41,10 @@ fn wanted_at(at: At, fault: Fault) -> Wanted {
         Fault::EmptyMatch => Wanted::Condition,
         Fault::NeedsToday => Wanted::Today,
         Fault::NotSuccessful => Wanted::Success,
+        Fault::NoHit => match at {
+            At::Rule(_) => Wanted::HitRule,
+            _ => Wanted::HitPlace,
+        },
     }
 }
 
@@ -128,7 +132,7 @@ pub(crate) fn mismatch_of<'a>(
 ) -> Result<Mismatch<'a>, AllocError> {
     let root = JsonPlace::root(alloc, value, !is_file(at));
     match at {
-        At::Nowhere | At::Whole(_) => {
+        At::Nowhere | At::Whole(_) | At::Place(_) | At::Rule(_) => {
             let found = mismatch_of_source(alloc, &root, at, fault)?;
             Ok(or_all(found, root, wanted_at(at, fault)))
         }

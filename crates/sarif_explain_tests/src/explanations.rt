@@ -1,4 +1,5 @@
 //! The smallest source of each cause, with the complete expected explanation.
+mod arguments;
 mod files;
 mod forms;
 mod logs;

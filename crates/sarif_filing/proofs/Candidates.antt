@@ -20,7 +20,7 @@ use Rattle.sarif_filing.specs.declared.table.Table.{Table}
 use Rattle.sarif_entries.specs.Internal.Filing.{asks_for_guid, asks_for_pair, asks_for_message, asks_for_text, asks_for_none, key_with, message_key, prefix_key, message_keys, guid_of, pairs_of, texts_of, guid_in, pairs_in, args_in}
 use Rattle.sarif_filing.specs.Internal.Table.{candidates}
 use Rattle.sarif_entries.specs.Condition.{is_text, begins, is_guid, is_snippet, is_pair, are_among, holds, kind_of, is_kind, of_kind, text_of, text_in}
-use Rattle.sarif_entries.specs.Matching.{hold, is_expired, matches}
+use Rattle.sarif_entries.specs.Matching.{hold, is_expired, is_met, is_used_up, matches}
 use Rattle.sarif_filing.specs.Numbers.{numbers_from, numbers_at}
 use Rattle.sarif_filing.specs.Internal.Prefixes.{IsPrefixTable, found_for}
 use Rattle.sarif_filing.specs.Internal.Table.{IsTable}
@@ -387,7 +387,8 @@ among today r es table is n e at match =
     let cs : List Condition = e.conditions in
     let begun : (prefix : List ℕ) → prefix_key cs ≡ Some prefix → begins prefix r.place.uri ≡ true
     → has n beginning ≡ true = λ prefix key begins. found_begun es table n e prefix r.place.uri is at key begins in
-    let all : hold cs r ≡ true = (and_parts (not (is_expired today e)) (hold cs r) match).1 in
+    let met : is_met today e r ≡ true = (and_parts (not (is_used_up e.limit r)) (is_met today e r) match).1 in
+    let all : hold cs r ≡ true = (and_parts (not (is_expired today e)) (hold cs r) met).1 in
     let names : Names cs (guid_in cs) (text_in kinds.Snippet cs) (pairs_in kinds.Fingerprints cs) (pairs_in kinds.PartialFingerprints cs) (text_in kinds.Message cs)
     (text_in kinds.Uri cs) (text_in kinds.RuleId cs) (text_in kinds.UriPrefix cs) (text_in kinds.Tool cs) (text_in kinds.MessageId cs)
     (args_in cs) =

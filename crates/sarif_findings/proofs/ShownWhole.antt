@@ -61,6 +61,9 @@ not_concealed b h = rw (not_control b h, not_unseen b (low b h), not_blank b (lo
 pub plain_byte : (b : ℕ) → is_printable b ≡ true → plain b ≡ b
 plain_byte b h = rw (not_concealed b h) refl
 
+pub plain_within : (c : ℕ) → 32 ≤ c → c ≤ 126 → c ≡ plain c
+plain_within c first last = sym (plain_byte c (grind (arith, nat_tests, first, last)))
+
 parted_byte : (after_sign : Bool) (b : ℕ) → is_verbatim b ≡ true → parted after_sign b ≡ b ∷ []
 parted_byte true b h = rw (no_sign b h) refl
 parted_byte false b h = refl

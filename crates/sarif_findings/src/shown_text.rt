@@ -55,10 +55,15 @@ fn is_blank_letter(c: char) -> bool
     matches!(c, '\u{115f}'..='\u{1160}' | '\u{17b4}'..='\u{17b5}' | '\u{3164}' | '\u{ffa0}')
 }
 
-/// Returns the character, or a space instead of a character that is not shown.
+/// Returns the character, or a space instead of a character that is not shown. Most characters are compared with the
+/// first range alone.
+#[tactic(auto, using(crate::proofs::ShownWhole::plain_within))]
 pub(crate) fn plain(c: char) -> char
     ensures { result ≡ said.plain c }
 {
+    if ' ' <= c && c <= '~' {
+        return c;
+    }
     if is_control(c) || is_unseen_mark(c) || is_blank_letter(c) {
         ' '
     } else {

@@ -1,7 +1,9 @@
 //! Explaining on standard error what stopped a run.
 use crate::outputs::Outputs;
 use crate::sources::ProgramSource;
-use sarif_explain::{FaultSource, explanation, is_past_limit, output_explanation};
+use sarif_explain::{
+    FaultSource, argument_explanation, explanation, is_past_limit, output_explanation,
+};
 use sarif_findings::show_text;
 use sarif_model::{At, Cause, MergeFault, Source, Text};
 use sarif_program::{Complaint, Complaints};
@@ -90,9 +92,22 @@ impl EndedRun<'_, '_> {
         Ok(!is_past_limit(alloc, fault.cause, bytes)?)
     }
 
-    /// Returns the explanation of an error, by its source.
+    /// Returns the place or the rule that the error is about: a value of `--at` or of `--rule`.
+    fn chosen_by(&self, at: At) -> Option<&Text> {
+        let choice = &self.request.choice.as_ref()?.choice;
+        match at {
+            At::Place(number) => choice.places.as_slice().get(number),
+            At::Rule(number) => choice.rules.as_slice().get(number),
+            _ => None,
+        }
+    }
+
+    /// Returns the explanation of an error, by its argument or its source.
     fn explain_fault(&self, alloc: Global, fault: &MergeFault) -> Result<String, AllocError> {
         let readers = self.readers;
+        if let Some(value) = self.chosen_by(fault.at) {
+            return argument_explanation(alloc, fault, value.as_str());
+        }
         let Some(source) = source_of(fault) else {
             return of_source(alloc, fault, "", &[], None);
         };
@@ -134,7 +149,7 @@ fn destination_of<T>(report: Report, reports: &[RequestedOutput<T>]) -> Option<&
 /// Returns the source of an error.
 fn source_of(fault: &MergeFault) -> Option<Source> {
     match fault.at {
-        At::Nowhere => None,
+        At::Nowhere | At::Place(_) | At::Rule(_) => None,
         At::Whole(source) | At::Run(source, _) | At::Single(source, _, _) => Some(source),
         At::Entry(_) => Some(Source::Suppress),
     }

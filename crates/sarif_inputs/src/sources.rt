@@ -1,6 +1,5 @@
 //! Opening the runs of all sources of a merge.
-ghost use Rattle.std.specs.Prelude.{◌≡◌, ◌≤◌, ◌+◌, ◌++◌, [], Ok, ℕ, Bool, List, map, length, false};
-ghost use Rattle.std.specs.Prelude.{OnOk, IfErr, IfOk};
+ghost use Rattle.std.specs.Prelude.{◌≡◌, ◌≤◌, ◌+◌, ◌++◌, [], Ok, ℕ, Bool, List, map, length, false, OnOk, IfErr, IfOk};
 ghost use Rattle.std.specs.List.{list_any};
 ghost use Rattle.serde_json.specs.Written.{has_float};
 ghost use Rattle.sarif_read.specs.Internal.Indexed.{run_of};
@@ -25,7 +24,7 @@ use crate::opening::open_each;
 use crate::read_run::ReadRun;
 use crate::reading::{ReadLog, read_kinds};
 use json_parts::{Index, IndexFault};
-use sarif_match::MatchingVersion;
+use sarif_evidence::MatchingVersion;
 use sarif_model::{
     At, Cause, Fault, MOST_RESULTS, MOST_RUNS, MOST_SOURCES, MergeFault, Refusal, Source,
     SourceKind,

@@ -2,3 +2,4 @@ pub mod Ignored
 pub mod Parts
 pub mod Renumbered
 pub mod Sources
+pub mod Unused

@@ -1,20 +1,15 @@
 -- Parts of an accepted merge are accepted, and by tool they are matched as all of it.
-use Rattle.std.proofs.Common.{◌≡◌, ◌+◌, ◌≤◌, ◌||◌, ◌&&◌, not, ℕ, Bool, true, false, List, [], ◌++◌, length, refl, sym, ap, ap₂, ◌∙◌, arith}
-use Rattle.std.specs.List.{list_any}
+use Rattle.std.proofs.Common.{◌≡◌, ◌+◌, ◌≤◌, ℕ, List, [], ◌++◌, length, refl, sym, ap, ap₂, ◌∙◌, arith}
 use Rattle.std.proofs.lemmas.List.{length-append, map-append}
-use Rattle.std.proofs.lemmas.List.Folds.{list_any-append}
 use Rattle.sarif_model.specs.declared.merge_fault.Source.{Source}
 use Rattle.sarif_model.specs.declared.merge_fault.Source.TheVariants.{Baseline, Log}
-use Rattle.sarif_model.specs.declared.record.Record.{Record}
-use Rattle.sarif_match.specs.declared.version.MatchingVersion.{MatchingVersion}
+use Rattle.sarif_evidence.specs.declared.version.MatchingVersion.{MatchingVersion}
 use Rattle.sarif_match.specs.Partners.{partners_in}
 use Rattle.sarif_match_laws.specs.ByTool.{HaveNoToolInCommon}
 use Rattle.sarif_match_laws.proofs.ByTool.{matched_apart}
 use Rattle.sarif_options.specs.declared.checks.Checks.{Checks}
-use Rattle.sarif_entries.specs.declared.entry.Entry.{Entry}
-use Rattle.sarif_entries.specs.File.{File}
 use Rattle.sarif_entries.specs.Given.{file_or_none}
-use Rattle.sarif_entries.specs.Matching.{matches}
+use Rattle.sarif_suppress.specs.Limited.{limited}
 use Rattle.sarif_suppress.specs.Suppressing.{is_unused}
 use Rattle.sarif_runs.specs.Judging.{faults_of_runs, records_of, run_values, skips}
 use Rattle.sarif_runs.specs.Placed.{Placed}
@@ -24,6 +19,7 @@ use Rattle.sarif_inputs.specs.SourceFaults.{source_faults}
 use Rattle.sarif_inputs_laws.specs.Parts.{HasParts, IsMatchedAs, baseline_in, current_in, with_sources}
 use Rattle.sarif_inputs_laws.proofs.Renumbered.{both_empty, faults-append, none_both, placed-append, placed_alike, records-append, records_alike, runs_faultless, values_alike}
 use Rattle.sarif_inputs_laws.proofs.Sources.{after_fewer, fewer_sources, front_and_back, numbered-append, one_after_other, results-append, results_numbered, results_sum, runs-append, runs_numbered, runs_total}
+use Rattle.sarif_inputs_laws.proofs.Unused.{unused_both}
 
 -- ---- the runs of sources and then of others
 
@@ -141,15 +137,6 @@ module _ (checks : Checks) (logs more baselines others : List (List ℕ)) where
 
 -- ---- the laws
 
-not_both : (a b : Bool) → not (a || b) ≡ (not a && not b)
-not_both true b = refl
-not_both false b = refl
-
-unused_both : (file : File) (e : Entry) (rs ss : List Record) → is_unused file (rs ++ ss) e ≡ (is_unused file rs e && is_unused file ss e)
-unused_both file e rs ss =
-    ap not (list_any-append (λ r. matches file.today e r) rs ss)
-    ∙ not_both (list_any (λ r. matches file.today e r) rs) (list_any (λ r. matches file.today e r) ss)
-
 module _ (inputs : Inputs) (logs more baselines others : List (List ℕ)) where
   abbrev one : Inputs
   one = with_sources inputs logs baselines
@@ -207,7 +194,8 @@ module _ (inputs : Inputs) (logs more baselines others : List (List ℕ)) where
       baselines = values_both inputs.checks Baseline (λ m n. refl) (λ m n. refl) baselines others;
       current = current_both;
       baseline = baseline_both;
-      unused = λ file e. ap (λ rs. is_unused file rs e) current_both ∙ unused_both file e (current_in one) (current_in other);
+      unused = λ given today file n e is at.
+          ap (λ rs. is_unused file (limited file rs) e) current_both ∙ unused_both given today file (current_in one) (current_in other) n e is at;
     }
 
   pub matched_parts : (version : MatchingVersion) → HaveNoToolInCommon (current_in one ++ baseline_in one) (current_in other ++ baseline_in other)

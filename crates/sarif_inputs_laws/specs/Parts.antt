@@ -1,11 +1,13 @@
 -- Two merges with the same suppression file, date and requirements, and the merge of the inputs of both.
-use Rattle.std.specs.Prelude.{◌≡◌, ◌&&◌, ◌++◌, ℕ, List, [], length}
+use Rattle.std.specs.Prelude.{◌≡◌, ◌&&◌, ◌++◌, ℕ, List, [], Option, Some, Ok, length, slice_get}
 use Rattle.sarif_model.specs.declared.record.Record.{Record}
-use Rattle.sarif_match.specs.declared.version.MatchingVersion.{MatchingVersion}
+use Rattle.sarif_evidence.specs.declared.version.MatchingVersion.{MatchingVersion}
 use Rattle.sarif_match.specs.Partners.{partners_in}
 use Rattle.sarif_match_laws.specs.ByTool.{IsMatchedApart, moved}
 use Rattle.sarif_entries.specs.declared.entry.Entry.{Entry}
 use Rattle.sarif_entries.specs.File.{File}
+use Rattle.sarif_entries.specs.Given.{file_or_none}
+use Rattle.sarif_suppress.specs.Limited.{limited}
 use Rattle.sarif_suppress.specs.Suppressing.{is_unused}
 use Rattle.sarif_runs.specs.Judging.{records_of, run_values}
 use Rattle.sarif_inputs.specs.Faults.{faults_of}
@@ -35,10 +37,12 @@ pub record HasParts (first second both : Inputs) : Type 0 where
       ≡ run_values (baseline_runs first) ++ run_values (baseline_runs second)
   pub current : current_in both ≡ current_in first ++ current_in second
   pub baseline : baseline_in both ≡ baseline_in first ++ baseline_in second
-  -- an entry of a suppression file is unused exactly if it is unused in both
-  pub unused : (file : File) (e : Entry)
-      → is_unused file (current_in both) e
-      ≡ (is_unused file (current_in first) e && is_unused file (current_in second) e)
+  -- an entry of a suppression file is unused exactly if it is unused in both; each counts its limits from 0
+  pub unused : (given : Option (List ℕ)) (today : Option ℕ) (file : File) (n : ℕ) (e : Entry)
+      → file_or_none given today ≡ Ok file → slice_get file.entries n ≡ Some e
+      → is_unused file (limited file (current_in both)) e
+      ≡ (is_unused file (limited file (current_in first)) e
+      && is_unused file (limited file (current_in second)) e)
 
 -- the matches of a merge are those of two others
 pub record IsMatchedAs (version : MatchingVersion) (first second both : Inputs) : Type 0 where

@@ -1,6 +1,6 @@
 //! Laws of the inputs of merges, each the contract of a function that does nothing.
 ghost use Rattle.std.specs.Prelude.{◌≡◌, ◌++◌, ℕ, List, []};
-ghost use Rattle.sarif_match.specs.declared.version.MatchingVersion.{MatchingVersion};
+ghost use Rattle.sarif_evidence.specs.declared.version.MatchingVersion.{MatchingVersion};
 ghost use Rattle.sarif_match_laws.specs.ByTool.{HaveNoToolInCommon};
 ghost use Rattle.sarif_inputs.specs.Faults.{faults_of};
 ghost use Rattle.sarif_inputs.specs.Inputs.{Inputs};

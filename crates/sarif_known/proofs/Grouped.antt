@@ -14,7 +14,7 @@ use Rattle.sarif_entries.specs.Matching.{is_empty}
 use Rattle.sarif_known.specs.declared.chosen.KnownRun.{KnownRun}
 use Rattle.sarif_known.specs.Chosen.{Chosen, all_chosen, chosen_of}
 use Rattle.sarif_known.specs.Internal.Groups.{AreApart, groups_of, side_by_side, spread, texts_of}
-use Rattle.sarif_match.specs.declared.version.MatchingVersion.{MatchingVersion}
+use Rattle.sarif_evidence.specs.declared.version.MatchingVersion.{MatchingVersion}
 use Rattle.sarif_known.specs.Order.{in_turn, known_runs, once_each, runs_of_tool, tools_of}
 
 -- ---- the tools

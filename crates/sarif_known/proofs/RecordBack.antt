@@ -104,6 +104,7 @@ record_back options bases n r readable there =
           held = r.held;
           region = if_placed r.place r.region;
           snippet = if_placed r.place r.snippet;
+          spent = [];
         }))
         (Ok r)
     whole_back =
@@ -122,4 +123,5 @@ record_back options bases n r readable there =
           held = r.held;
           region = readable.region_placed i;
           snippet = readable.snippet_placed i;
+          spent = sym readable.unspent i;
         })

@@ -1,6 +1,5 @@
 pub mod Chosen
 pub mod Internal
-pub mod JustKnown
 pub mod KnownLog
 pub mod KnownResult
 pub mod KnownRun

@@ -1,10 +1,10 @@
 -- What matching says about a current result.
 use Rattle.std.specs.Prelude.{Bool, false, not, Option, Some, None}
 use Rattle.sarif_model.specs.declared.record.Record.{Record}
-use Rattle.sarif_match.specs.declared.version.MatchingVersion.{MatchingVersion}
-use Rattle.sarif_match.specs.declared.version.MatchingVersion.TheVariants.{Two, Three}
-use Rattle.sarif_match.specs.Evidence.{has_evidence, state_in}
-use Rattle.sarif_match.specs.Seen.{seen}
+use Rattle.sarif_evidence.specs.declared.version.MatchingVersion.{MatchingVersion}
+use Rattle.sarif_evidence.specs.declared.version.MatchingVersion.TheVariants.{Two, Three}
+use Rattle.sarif_evidence.specs.Evidence.{has_evidence, state_in}
+use Rattle.sarif_evidence.specs.Seen.{seen}
 use Rattle.sarif_known.specs.declared.standing.Standing.{Standing}
 
 -- whether a current result has this match, but nothing shows that the two are the same; in version 2 each match shows it

@@ -19,7 +19,7 @@ use crate::lines::Lines;
 use crate::members::push_text;
 use crate::order::order_runs;
 use json::Token;
-use sarif_match::MatchingVersion;
+use sarif_evidence::MatchingVersion;
 use sarif_model::{MOST_BYTES, MergeFault};
 use std::alloc::{AllocError, Global};
 use std::hash::RandomState;

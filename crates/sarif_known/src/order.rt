@@ -7,7 +7,7 @@ ghost use Rattle.sarif_known.specs.Order.{in_turn, known_runs, once_each, runs_o
 
 use crate::chosen::KnownRun;
 use indexmap::IndexSet;
-use sarif_match::MatchingVersion;
+use sarif_evidence::MatchingVersion;
 use sarif_model::Text;
 use std::alloc::{AllocError, Global};
 use std::hash::RandomState;

@@ -3,7 +3,7 @@ ghost use Rattle.std.specs.Prelude.{◌≡◌};
 ghost use Rattle.std.specs.Option.{option_copied};
 ghost use Rattle.sarif_known.specs.Standing as said;
 
-use sarif_match::{MatchingVersion, has_evidence, state_in};
+use sarif_evidence::{MatchingVersion, has_evidence, state_in};
 use sarif_model::{Record, State};
 
 /// What matching says about a current result.

@@ -1,9 +1,10 @@
 -- The law of accepting.
-use Rattle.std.proofs.Common.{◌≡◌, ◌+◌, ◌-◌, ◌<◌, ◌≤◌, ◌&&◌, ℕ, Bool, true, false, List, [], length, get_or, length-append, Option, Some, None, Ok, Result, codes, bytes_eq, refl, sym, ap, subst, ◌∙◌, arith, if◌then◌else◌}
+use Rattle.std.proofs.Common.{◌≡◌, ◌+◌, ◌-◌, ◌<◌, ◌≤◌, ◌&&◌, ℕ, Bool, true, false, List, [], length, get_or, length-append, Option, Some, None, slice_get, slice_index_or, Ok, Result, codes, bytes_eq, refl, sym, ap, subst, ◌∙◌, arith, if◌then◌else◌}
 use Rattle.std.specs.Prelude.{count_by, flat_map, nat_lt}
 use Rattle.std.specs.List.{AllByRecursion}
 use Rattle.std.proofs.lemmas.Bool.{ltb-true, ltb-false}
 use Rattle.std.proofs.lemmas.List.{get_or_append_left, get_or-append_right, get_or_past}
+use Rattle.std.proofs.lemmas.Option.{get_or_from_slice_get, slice_get-get_or, slice_get_within}
 use Rattle.serde_json.specs.Data.{Data, null}
 use Rattle.sarif_model.specs.declared.fault.Fault.{Fault}
 use Rattle.sarif_model.specs.declared.record.Record.{Record}
@@ -13,36 +14,40 @@ use Rattle.sarif_options.specs.declared.policy.Policy.{Policy}
 use Rattle.sarif_options.specs.declared.upkeep.Renewal.{Renewal}
 use Rattle.sarif_counts.specs.CountOf.{count_of}
 use Rattle.sarif_counts.specs.Hits.{hits_of}
-use Rattle.sarif_match.specs.declared.version.MatchingVersion.{MatchingVersion}
-use Rattle.sarif_match.specs.declared.version.MatchingVersion.TheVariants.{Two, Three}
-use Rattle.sarif_match.specs.Evidence.{has_evidence, state_in}
-use Rattle.sarif_match.specs.Seen.{seen}
-use Rattle.sarif_match.specs.State.{is_unchanged}
+use Rattle.sarif_evidence.specs.declared.version.MatchingVersion.{MatchingVersion}
+use Rattle.sarif_evidence.specs.declared.version.MatchingVersion.TheVariants.{Two, Three}
+use Rattle.sarif_evidence.specs.Evidence.{has_evidence, state_in}
+use Rattle.sarif_evidence.specs.Seen.{seen}
+use Rattle.sarif_evidence.specs.State.{is_unchanged}
 use Rattle.sarif_model.specs.declared.kinds.State.TheVariants.{Unchanged, Updated}
 use Rattle.sarif_runs.specs.Judging.{records_of, run_values}
 use Rattle.sarif_runs.specs.Record.{record_of}
+use Rattle.sarif_entries.specs.Numbering.{renumbered}
+use Rattle.sarif_suppress.specs.Limited.{all_spent, with_spent}
 use Rattle.sarif_inputs.specs.Faults.{faults_of}
 use Rattle.sarif_inputs.specs.Inputs.{Inputs, baseline_runs, input_runs, record_options}
 use Rattle.sarif_log.specs.LogBy.{listing_of, states_of, taken_of}
 use Rattle.sarif_log.specs.MergedRuns.{written}
 use Rattle.sarif_merge.specs.Life.{merge_in}
-use Rattle.sarif_merge.specs.MergedLog.{current_of, file_given, runs_written, written_inputs}
-use Rattle.sarif_merge.specs.OwnResult.{IsResult, baseline_of, number_among_all, partner_at, run_at, written_by, written_run}
+use Rattle.sarif_merge.specs.MergedLog.{current_of, file_given, limited_of, runs_written, written_inputs}
+use Rattle.sarif_merge.specs.OwnResult.{IsResult, baseline_of, number_among_all, partner_at, run_at, spent_at, written_by, written_run}
 use Rattle.sarif_merge.proofs.OwnResult.{own_result, results_same, runs_same}
 use Rattle.sarif_upkeep.specs.Renewed.{how_of, renewal_faults}
-use Rattle.sarif_accept.specs.Adding.{may_hit}
+use Rattle.sarif_accept.specs.Adding.{added_for, may_hit}
 use Rattle.sarif_accept.specs.Until.{IsDated, IsUntil}
-use Rattle.sarif_accept.proofs.After.{hits_after, list_begins, still_suppressed}
+use Rattle.sarif_accept_laws.proofs.After.{hits_after, list_begins, still_suppressed}
 use Rattle.sarif_laws.specs.Accepting.{IsLeft, LeavesWhatStays}
 use Rattle.sarif_laws.specs.Hits.{is_hit_in, stays_in}
 use Rattle.sarif_laws.specs.NextMerge.{IsNewFileOf, absent_written, merged_result, merged_run_at, with_file}
 use Rattle.sarif_laws.proofs.Absent.{StaysIfHit, absent_stay}
 use Rattle.sarif_laws.proofs.Counted.{hits_counted, none_fails}
-use Rattle.sarif_laws.proofs.FileAfter.{faultless_later, later_file, later_is, same_today}
+use Rattle.sarif_laws.proofs.FileAfter.{faultless_later, input_file, keeps_matches, later_file, later_is, later_read, same_today}
+use Rattle.sarif_laws.proofs.LaterResults.{alike_result, listed_later}
 use Rattle.sarif_laws.proofs.Left.{left_by, left_same}
+use Rattle.sarif_laws.proofs.Limited.{found_at}
 use Rattle.sarif_laws.proofs.Lists.{all_at, same_counts}
 use Rattle.sarif_laws.proofs.Places.{has_place}
-use Rattle.sarif_laws.proofs.Read.{record_read}
+use Rattle.sarif_laws.proofs.Read.{IsRead, record_read}
 
 one_record : (a b : Record) → ◌≡◌ {A = Result Record Fault} (Ok a) (Ok b) → a ≡ b
 one_record a b is = cc
@@ -57,6 +62,10 @@ current_state Two r None = refl
 current_state Two r (Some other) = one_of_two (is_unchanged r other)
 current_state Three r None = refl
 current_state Three r (Some other) = one_of_two (is_unchanged r other && has_evidence (seen r) (seen other))
+
+-- what is read of a result doesn't look at entries
+still_read : (d : Data) (r : Record) (numbers : List ℕ) → IsRead d r → IsRead d (with_spent r numbers)
+still_read d r numbers read = record { guid = read.guid; held = read.held }
 
 dated_until : (today until : Option ℕ) → IsUntil today until → IsDated today until
 dated_until today None is = tt
@@ -108,18 +117,44 @@ module _ (inputs : Inputs) (policy : Policy) (renewal : Renewal) (text : List �
   later_none : faults_of (with_file inputs text) ≡ []
   later_none = faultless_later inputs policy renewal text none small dated is
 
-  -- the same result in the next merge
+  -- a result at its place among all
+  at_place : (k seq : ℕ) (r : Record) → IsResult inputs k seq → record_of (record_options inputs.checks) (run_at inputs k) seq ≡ Ok r
+      → slice_get (current_of inputs) (number_among_all inputs k seq) ≡ Some r
+  at_place k seq r there read =
+      let place = number_among_all inputs k seq in
+      let at = has_place inputs k seq r none there read in
+      slice_get-get_or (current_of inputs) place r at.in_records ∙ ap Some at.record_is
+
+  -- the same result in the next merge is written as if entries had the numbers that they had
   later_result : (k seq : ℕ) (r : Record) → IsResult inputs k seq → record_of (record_options inputs.checks) (run_at inputs k) seq ≡ Ok r
       → result_at (written_run (with_file inputs text) k) seq
-      ≡ written (listing_of (later_file inputs policy renewal)) r (state_in inputs.checks.matching r (partner_at inputs (number_among_all inputs k seq)))
-      (result_at (run_at inputs k) seq)
+      ≡ written (listing_of (later_file inputs policy renewal)) (with_spent r (spent_at inputs (number_among_all inputs k seq)))
+      (state_in inputs.checks.matching r (partner_at inputs (number_among_all inputs k seq))) (result_at (run_at inputs k) seq)
   later_result k seq r there read =
       let own = own_result (with_file inputs text) k seq later_none there in
       let place = number_among_all inputs k seq in
       let d = result_at (run_at inputs k) seq in
+      let rs = current_of inputs in
+      let file = file_given inputs in
+      let later = later_file inputs policy renewal in
+      let state = state_in inputs.checks.matching r (partner_at inputs place) in
+      let before = spent_at inputs place in
+      let after = slice_index_or (all_spent (renumbered later) rs) place [] in
+      let at = at_place k seq r there read in
+      let added = added_for (how_of (merge_in inputs policy) renewal) (may_hit policy) file (limited_of inputs)
+      (states_of inputs.checks.matching rs (baseline_of inputs)) in
       own.2
-      ∙ ap (λ x. written (listing_of (file_given (with_file inputs text))) x (state_in inputs.checks.matching x (partner_at inputs place)) d) (one_record own.0 r (sym own.1 ∙ read))
-      ∙ ap (λ file. written (listing_of file) r (state_in inputs.checks.matching r (partner_at inputs place)) d) (later_is inputs policy renewal text none small dated is)
+      ∙ ap (λ x. written (listing_of (file_given (with_file inputs text))) (with_spent x (spent_at (with_file inputs text) place))
+      (state_in inputs.checks.matching x (partner_at inputs place)) d) (one_record own.0 r (sym own.1 ∙ read))
+      ∙ ap (λ f. written (listing_of f) (with_spent r (slice_index_or (all_spent f rs) place [])) state d)
+      (later_is inputs policy renewal text none small dated is)
+      ∙ alike_result (listing_of (renumbered later)) (listing_of later) (with_spent r after) (with_spent r before) state d
+      (record {
+        level = refl;
+        listed = listed_later inputs.suppressions text inputs.today file (how_of (merge_in inputs policy) renewal) (limited_of inputs) added rs
+            (input_file inputs none) (later_read inputs policy renewal text none small dated is) place r before after at
+            (found_at file rs place r at) (found_at (renumbered later) rs place r at);
+      })
 
   left_current : (k seq : ℕ) → IsResult inputs k seq
       → IsLeft policy (result_at (written_run inputs k) seq) (result_at (written_run (with_file inputs text) k) seq)
@@ -127,20 +162,26 @@ module _ (inputs : Inputs) (policy : Policy) (renewal : Renewal) (text : List �
       let own = own_result inputs k seq none there in
       let r = own.0 in
       let file = file_given inputs in
-      let rs = current_of inputs in
-      let states = states_of inputs.checks.matching rs (baseline_of inputs) in
+      let rs = limited_of inputs in
+      let states = states_of inputs.checks.matching (current_of inputs) (baseline_of inputs) in
       let place = number_among_all inputs k seq in
+      let before : Record = with_spent r (spent_at inputs place) in
       let state = state_in inputs.checks.matching r (partner_at inputs place) in
       let at = has_place inputs k seq r none there own.1 in
+      let found : slice_get rs place ≡ Some before = found_at file (current_of inputs) place r (at_place k seq r there own.1) in
+      let in_records = slice_get_within rs place before found in
+      let record_is = get_or_from_slice_get rs place before before found in
       let how = how_of (merge_in inputs policy) renewal in
       let until_file : IsUntil file.today renewal.until = subst (λ today. IsUntil today renewal.until) (sym (same_today inputs none)) until in
       let left =
-      left_by policy r state file (later_file inputs policy renewal)
-      (hits_after how (may_hit policy) file rs states r state place at.in_records at.in_states at.record_is at.state_is accepts until_file)
-      (still_suppressed how (may_hit policy) file rs states r place at.in_records at.record_is)
-      (λ given. list_begins how (may_hit policy) file rs states r place given at.in_records at.record_is)
-      (current_state inputs.checks.matching r (partner_at inputs place)) (result_at (run_at inputs k) seq) (record_read (record_options inputs.checks) (run_at inputs k) seq r own.1) in
-      subst (λ before. IsLeft policy before (result_at (written_run (with_file inputs text) k) seq)) (sym own.2)
+      left_by policy before state file (later_file inputs policy renewal)
+      (hits_after how (may_hit policy) file rs states before state place in_records at.in_states record_is at.state_is accepts until_file)
+      (still_suppressed how (may_hit policy) file rs states before place in_records record_is)
+      (λ given. list_begins how (may_hit policy) file rs states before place given in_records record_is)
+      (current_state inputs.checks.matching r (partner_at inputs place)) (result_at (run_at inputs k) seq)
+      (still_read (result_at (run_at inputs k) seq) r (spent_at inputs place)
+      (record_read (record_options inputs.checks) (run_at inputs k) seq r own.1)) in
+      subst (λ b. IsLeft policy b (result_at (written_run (with_file inputs text) k) seq)) (sym own.2)
       (subst (IsLeft policy (written_by inputs r place (result_at (run_at inputs k) seq))) (sym (later_result k seq r there own.1)) left)
 
   left_in_run : (k seq : ℕ) → k < length (input_runs inputs)
@@ -198,6 +239,7 @@ module _ (inputs : Inputs) (policy : Policy) (renewal : Renewal) (text : List �
     counts = same_results inputs text;
     results = left_at;
     absent = refl;
+    matches = keeps_matches inputs policy renewal text none small dated is;
     hits = later_hits;
     verdict = λ nothing. none_fails policy (hits_of (count_of (runs_written (with_file inputs text))) policy) (later_hits ∙ nothing);
   }

@@ -9,15 +9,14 @@ use Rattle.std.proofs.lemmas.Option.{slice_get-map}
 use Rattle.sarif_model.specs.declared.kinds.State.TheVariants.{Unchanged, Updated}
 use Rattle.sarif_model.specs.declared.record.Record.{Record}
 use Rattle.sarif_match.specs.Partners.{has_partner, is_taken, partners_of}
-use Rattle.sarif_match.specs.declared.version.MatchingVersion.{MatchingVersion}
-use Rattle.sarif_match.specs.declared.version.MatchingVersion.TheVariants.{Two, Three}
-use Rattle.sarif_match.specs.Evidence.{are_same_members, by_snippets, has_evidence, has_other_evidence, is_same_guid, share_member, state_in}
-use Rattle.sarif_match.specs.Key.{is_empty}
-use Rattle.sarif_match.specs.KeyParts.{pairs_eq}
-use Rattle.sarif_match.specs.Seen.{seen}
-use Rattle.sarif_match.specs.State.{is_unchanged, state_of}
+use Rattle.sarif_evidence.specs.declared.version.MatchingVersion.{MatchingVersion}
+use Rattle.sarif_evidence.specs.declared.version.MatchingVersion.TheVariants.{Two, Three}
+use Rattle.sarif_evidence.specs.Evidence.{are_same_members, by_snippets, has_evidence, has_other_evidence, is_same_guid, share_member, state_in}
+use Rattle.sarif_evidence.specs.EqualParts.{is_empty, pairs_eq}
+use Rattle.sarif_evidence.specs.Seen.{seen}
+use Rattle.sarif_evidence.specs.State.{is_unchanged, state_of}
 use Rattle.sarif_match.specs.Tiers.{tiers_of}
-use Rattle.sarif_match.proofs.StateLemmas.{equal_is_unchanged}
+use Rattle.sarif_evidence.proofs.StateLemmas.{equal_is_unchanged}
 use Rattle.sarif_known.specs.Selected.{keep_unless, unmatched_of}
 use Rattle.sarif_log.specs.LogBy.{partner_in, states_from, states_of, taken_of}
 use Rattle.sarif_laws.proofs.Arranged.{itself, all_arranged, apart_arranged, arranged, AreApart, Fits, fits_long, of_tagged, of_tool, same_of_tool, untag, untagged}

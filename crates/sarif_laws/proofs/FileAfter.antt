@@ -1,11 +1,11 @@
 -- The new suppression file of inputs without errors is read as the file that was meant.
-use Rattle.std.proofs.Common.{◌≡◌, ℕ, ◌≤◌, ◌++◌, Bool, true, false, ◌&&◌, not, List, [], ◌∷◌, map, Result, Ok, Err, refl, ap, ◌∙◌, if◌then◌else◌}
+use Rattle.std.proofs.Common.{◌≡◌, ℕ, ◌≤◌, ◌++◌, Bool, true, false, ◌&&◌, not, List, [], ◌∷◌, map, slice_get, Result, Ok, Err, refl, sym, ap, ◌∙◌, if◌then◌else◌}
 use Rattle.std.specs.Prelude.{nat_lt}
 use Rattle.std.specs.List.{AllByRecursion, list_any}
 use Rattle.std.proofs.lemmas.Bool.{ltb-false}
-use Rattle.sarif_match.specs.Seen.{as_matched}
-use Rattle.sarif_match.specs.declared.version.MatchingVersion.{MatchingVersion}
-use Rattle.sarif_match.specs.declared.version.MatchingVersion.TheVariants.{Two, Three}
+use Rattle.sarif_evidence.specs.Seen.{as_matched}
+use Rattle.sarif_evidence.specs.declared.version.MatchingVersion.{MatchingVersion}
+use Rattle.sarif_evidence.specs.declared.version.MatchingVersion.TheVariants.{Two, Three}
 use Rattle.sarif_model.specs.declared.kinds.State.{State}
 use Rattle.sarif_model.specs.declared.merge_fault.MergeFault.{MergeFault}
 use Rattle.sarif_model.specs.declared.merge_fault.Source.TheVariants.{Log, Baseline}
@@ -15,6 +15,8 @@ use Rattle.sarif_options.specs.declared.policy.Policy.{Policy}
 use Rattle.sarif_options.specs.declared.upkeep.Renewal.{Renewal}
 use Rattle.sarif_entries.specs.declared.fault.FileFault.{FileFault}
 use Rattle.sarif_entries.specs.File.{File, file_of}
+use Rattle.sarif_entries.specs.Numbering.{renumbered, with_number}
+use Rattle.sarif_suppress.specs.Limited.{limited}
 use Rattle.sarif_results.proofs.JudgedCounts.{no_faults_here, no_faults_left}
 use Rattle.sarif_log.specs.LogBy.{states_of}
 use Rattle.sarif_inputs.specs.Faults.{faults_of, file_faults, number_faults}
@@ -23,14 +25,16 @@ use Rattle.sarif_inputs.specs.Inputs.{Inputs, all_runs, all_sources, input_runs}
 use Rattle.sarif_inputs.specs.SourceFaults.{source_faults}
 use Rattle.sarif_runs.specs.Judging.{faults_of_runs}
 use Rattle.sarif_merge.specs.Life.{merge_in}
-use Rattle.sarif_merge.specs.MergedLog.{current_of, file_given, file_in}
+use Rattle.sarif_merge.specs.MergedLog.{current_of, file_given, file_in, limited_of}
 use Rattle.sarif_merge.specs.OwnResult.{baseline_of}
 use Rattle.sarif_upkeep.specs.Renewed.{entries_count, how_of, renewal_faults}
-use Rattle.sarif_accept.specs.Adding.{MayBeHit, accepted_among, file_after, is_hit, is_said, may_hit, once_each, stays}
+use Rattle.sarif_accept.specs.Adding.{MayBeHit, accepted_among, added_for, file_after, is_hit, is_said, may_hit, once_each, stays}
 use Rattle.sarif_accept.specs.Until.{HasGuid, IsDated}
-use Rattle.sarif_accept.proofs.GivenFile.{today_given}
-use Rattle.sarif_accept.proofs.NewFileRead.{new_file_read}
-use Rattle.sarif_laws.specs.NextMerge.{IsNewFileOf, with_file}
+use Rattle.sarif_accept_laws.proofs.GivenFile.{today_given}
+use Rattle.sarif_accept_laws.proofs.NewFileRead.{new_file_read}
+use Rattle.sarif_laws.specs.NextMerge.{IsNewFileOf, KeepsMatches, with_file}
+use Rattle.sarif_laws.proofs.LaterResults.{same_matches}
+use Rattle.sarif_laws.proofs.Limited.{all_limited, from_at}
 use Rattle.sarif_laws.proofs.Read.{guids_fit}
 
 -- ---- the file of the inputs
@@ -101,27 +105,41 @@ another_file [] [] (x ∷ c) d e more none new = let never : ⊥ = cc in absurd 
 another_file [] (x ∷ b) c d e more none new = let never : ⊥ = cc in absurd never
 another_file (x ∷ a) b c d e more none new = let never : ⊥ = cc in absurd never
 
--- the suppression file of the next merge, as it is meant
+-- the suppression file of the next merge, as it is meant; its entries have the numbers that they had
 abbrev pub later_file : Inputs → Policy → Renewal → File
 later_file inputs policy renewal =
-    file_after (how_of (merge_in inputs policy) renewal) (may_hit policy) (file_given inputs) (current_of inputs)
+    file_after (how_of (merge_in inputs policy) renewal) (may_hit policy) (file_given inputs) (limited_of inputs)
     (states_of inputs.checks.matching (current_of inputs) (baseline_of inputs))
 
 module _ (inputs : Inputs) (policy : Policy) (renewal : Renewal) (text : List ℕ) (none : faults_of inputs ≡ [])
     (small : renewal_faults (merge_in inputs policy) renewal ≡ [])
     (dated : IsDated inputs.today renewal.until) (is : IsNewFileOf inputs policy renewal text) where
-  later_read : file_of text inputs.today ≡ Ok (later_file inputs policy renewal)
+  pub later_read : file_of text inputs.today ≡ Ok (renumbered (later_file inputs policy renewal))
   later_read =
-      let rs = current_of inputs in
-      let states = states_of inputs.checks.matching rs (baseline_of inputs) in
+      let rs = limited_of inputs in
+      let states = states_of inputs.checks.matching (current_of inputs) (baseline_of inputs) in
       new_file_read (how_of (merge_in inputs policy) renewal) (may_hit policy) inputs.suppressions inputs.today (file_given inputs) rs states text
       (input_file inputs none)
       (added_fit renewal.accept inputs.checks.matching (accepted_among (may_hit policy) (file_given inputs) rs states)
-      (accepted_fit (may_hit policy) (file_given inputs) rs states (guids_fit (input_runs inputs))))
+      (accepted_fit (may_hit policy) (file_given inputs) rs states
+      (all_limited HasGuid (λ r numbers fit. fit) (file_given inputs) (current_of inputs) (guids_fit (input_runs inputs)))))
       dated (few_by (entries_count (merge_in inputs policy) renewal) _ _ small) is
 
-  pub later_is : file_given (with_file inputs text) ≡ later_file inputs policy renewal
+  pub later_is : file_given (with_file inputs text) ≡ renumbered (later_file inputs policy renewal)
   later_is = ap file_in later_read
+
+  -- an entry that is kept matches the same results
+  pub keeps_matches : KeepsMatches inputs text
+  keeps_matches i n m e before after at_old at_new is_before is_after =
+      let file = file_given inputs in
+      let rs = current_of inputs in
+      let how = how_of (merge_in inputs policy) renewal in
+      let states = states_of inputs.checks.matching rs (baseline_of inputs) in
+      let from = from_at file rs i before is_before in
+      same_matches inputs.suppressions text inputs.today file how (limited_of inputs) (added_for how (may_hit policy) file (limited_of inputs) states) rs
+      (input_file inputs none) later_read i m n from.0 before after (with_number m e) e at_old
+      (ap (λ (f : File). slice_get f.entries m) (sym later_is) ∙ at_new) refl from.1 is_before
+      (ap (λ f. slice_get (limited f rs) i) (sym later_is) ∙ is_after)
 
   pub faultless_later : faults_of (with_file inputs text) ≡ []
   faultless_later =

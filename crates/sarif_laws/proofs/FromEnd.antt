@@ -10,9 +10,9 @@ use Rattle.std.proofs.lemmas.Option.{same_Some, slice_get-get_or, slice_get-map}
 use Rattle.sarif_model.specs.declared.kinds.State.TheVariants.{Unchanged}
 use Rattle.sarif_model.specs.declared.record.Record.{Record}
 use Rattle.sarif_match.specs.declared.tier.Tier.{Tier}
-use Rattle.sarif_match.specs.declared.version.MatchingVersion.TheVariants.{Three}
+use Rattle.sarif_evidence.specs.declared.version.MatchingVersion.TheVariants.{Three}
 use Rattle.sarif_match.specs.Partners.{from_end, has_partner, is_taken, partners_after, partners_in, seen_from_end, turned}
-use Rattle.sarif_match.specs.Seen.{seen}
+use Rattle.sarif_evidence.specs.Seen.{seen}
 use Rattle.sarif_match.specs.Tiers.{falling_names, finer_tiers}
 use Rattle.sarif_match.specs.Internal.Turned.{AreBelow}
 use Rattle.sarif_match.proofs.TurnedLemmas.{length-seen, partner_turned, partners_below, taken_within}

@@ -7,8 +7,8 @@ use Rattle.std.proofs.lemmas.Bool.{or_parts, or_left}
 use Rattle.sarif_entries.specs.Matching.{is_empty}
 use Rattle.sarif_known.specs.Chosen.{Chosen, results_among}
 use Rattle.sarif_known.specs.Internal.Groups.{AreApart}
-use Rattle.sarif_match.specs.declared.version.MatchingVersion.{MatchingVersion}
-use Rattle.sarif_match.specs.declared.version.MatchingVersion.TheVariants.{Two, Three}
+use Rattle.sarif_evidence.specs.declared.version.MatchingVersion.{MatchingVersion}
+use Rattle.sarif_evidence.specs.declared.version.MatchingVersion.TheVariants.{Two, Three}
 use Rattle.sarif_known.specs.Order.{in_turn, known_runs, runs_of_tool, tools_of}
 use Rattle.sarif_known.proofs.Grouped.{tools_apart}
 

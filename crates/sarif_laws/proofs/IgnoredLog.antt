@@ -6,13 +6,14 @@ use Rattle.serde_json.specs.Data.{Data}
 use Rattle.sarif_model.specs.declared.merge_fault.Source.{Source}
 use Rattle.sarif_model.specs.declared.merge_fault.Source.TheVariants.{Baseline, Log}
 use Rattle.sarif_model.specs.declared.record.Record.{Record}
-use Rattle.sarif_match.specs.declared.version.MatchingVersion.{MatchingVersion}
+use Rattle.sarif_evidence.specs.declared.version.MatchingVersion.{MatchingVersion}
 use Rattle.sarif_options.specs.declared.checks.Checks.{Checks}
 use Rattle.sarif_options.specs.declared.policy.Policy.{Policy}
 use Rattle.sarif_read.specs.Reading.{log_of}
 use Rattle.sarif_counts.specs.CountOf.{count_of}
 use Rattle.sarif_counts.specs.Gate.{gate_of}
 use Rattle.sarif_counts.specs.Hits.{verdict_of}
+use Rattle.sarif_suppress.specs.Limited.{limited}
 use Rattle.sarif_suppress.specs.Suppressing.{unused_of}
 use Rattle.sarif_runs.specs.Judging.{run_values}
 use Rattle.sarif_runs.specs.Placed.{Placed}
@@ -25,7 +26,7 @@ use Rattle.sarif_inputs_laws.proofs.Ignored.{ignored_missing}
 use Rattle.sarif_results.specs.Drafts.{Listing}
 use Rattle.sarif_log.specs.LogBy.{listing_of, log_by, runs_without_results, states_of, taken_of}
 use Rattle.sarif_log.specs.MergedRuns.{absent_runs, merged_runs}
-use Rattle.sarif_merge.specs.MergedLog.{current_of, file_given, runs_written, unused_in, without_of, written_inputs}
+use Rattle.sarif_merge.specs.MergedLog.{current_of, file_given, limited_of, runs_written, unused_in, without_of, written_inputs}
 use Rattle.sarif_merge.specs.OwnResult.{baseline_of}
 use Rattle.sarif_laws.specs.Ignored.{LacksIgnored, gate_in, log_of_all}
 use Rattle.sarif_laws.specs.NextMerge.{absent_written}
@@ -98,9 +99,9 @@ module _ (inputs : Inputs) (logs baselines : List (List ℕ)) (none : faults_of 
 
   written_less : written_inputs other ≡ map (run_without names) (written_inputs inputs)
   written_less =
-      ap₂ (λ cs bs. merged_runs listed cs (states_of v cs bs) (run_values (input_runs other))) records.current records.baseline
-      ∙ ap (merged_runs listed (current_of inputs) (states_of v (current_of inputs) (baseline_of inputs))) now
-      ∙ merged_without names listed (current_of inputs) (states_of v (current_of inputs) (baseline_of inputs)) (run_values (input_runs inputs))
+      ap₂ (λ cs bs. merged_runs listed (limited (file_given inputs) cs) (states_of v cs bs) (run_values (input_runs other))) records.current records.baseline
+      ∙ ap (merged_runs listed (limited_of inputs) (states_of v (current_of inputs) (baseline_of inputs))) now
+      ∙ merged_without names listed (limited_of inputs) (states_of v (current_of inputs) (baseline_of inputs)) (run_values (input_runs inputs))
 
   absent_less : absent_written other ≡ map (run_without names) (absent_written inputs)
   absent_less =
@@ -120,7 +121,7 @@ module _ (inputs : Inputs) (logs baselines : List (List ℕ)) (none : faults_of 
   without_same = ap runs_without_results now ∙ bare_without names (run_values (input_runs inputs))
 
   unused_same : unused_in other ≡ unused_in inputs
-  unused_same = ap (unused_of (file_given inputs)) records.current
+  unused_same = ap (λ cs. unused_of (file_given inputs) (limited (file_given inputs) cs)) records.current
 
   gate_same : (policy : Policy) → gate_in other policy ≡ gate_in inputs policy
   gate_same policy =
@@ -144,7 +145,7 @@ module _ (inputs : Inputs) (none : faults_of inputs ≡ []) (same : AreReadWitho
 
   abbrev as_before : List Record → List Record → List Data → List Data → List Data
   as_before cs bs now before =
-      merged_runs (listing_of (file_given inputs)) cs (states_of inputs.checks.matching cs bs) now
+      merged_runs (listing_of (file_given inputs)) (limited (file_given inputs) cs) (states_of inputs.checks.matching cs bs) now
       ++ absent_runs bs (taken_of inputs.checks.matching cs bs) before
 
   known : HasSameRecords inputs again
@@ -161,4 +162,4 @@ module _ (inputs : Inputs) (none : faults_of inputs ≡ []) (same : AreReadWitho
   pub nothing_changes : (policy : Policy) → log_of_all again policy ≡ log_of_all inputs policy
   nothing_changes policy =
       ap (λ runs. log_by runs policy (without_of again) (unused_in again)) runs_same
-      ∙ ap₂ (λ m n. log_by (runs_written inputs) policy m n) (ap runs_without_results now_same) (ap (unused_of (file_given inputs)) known.current)
+      ∙ ap₂ (λ m n. log_by (runs_written inputs) policy m n) (ap runs_without_results now_same) (ap (λ cs. unused_of (file_given inputs) (limited (file_given inputs) cs)) known.current)

@@ -6,10 +6,10 @@ use Rattle.serde_json.specs.Data.{Data}
 use Rattle.sarif_model.specs.declared.kinds.State.{State}
 use Rattle.sarif_model.specs.declared.record.Record.{Record}
 use Rattle.sarif_model.specs.Run.{present, results_of, results_total}
-use Rattle.sarif_match.specs.declared.version.MatchingVersion.{MatchingVersion}
-use Rattle.sarif_match.specs.Evidence.{state_in}
+use Rattle.sarif_evidence.specs.declared.version.MatchingVersion.{MatchingVersion}
+use Rattle.sarif_evidence.specs.Evidence.{state_in}
 use Rattle.sarif_match.specs.Partners.{is_taken, partners_in}
-use Rattle.sarif_match.specs.Internal.SameFinding.{match_in}
+use Rattle.sarif_match_laws.specs.SameFinding.{match_in}
 use Rattle.sarif_match_laws.specs.ByTool.{IsMatchedApart}
 use Rattle.sarif_results.specs.Drafts.{Listing}
 use Rattle.sarif_log.specs.Internal.Texts.{present_results}

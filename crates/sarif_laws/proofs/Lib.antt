@@ -13,7 +13,9 @@ pub mod IgnoredLog
 pub mod Joined
 pub mod Keyed
 pub mod KnownRuns
+pub mod LaterResults
 pub mod Left
+pub mod Limited
 pub mod LineFeeds
 pub mod Lists
 pub mod Matched
@@ -34,4 +36,6 @@ pub mod SameLogs
 pub mod Sound
 pub mod Sums
 pub mod Tiered
+pub mod ToolLimits
 pub mod WithoutNames
+pub mod Zipped

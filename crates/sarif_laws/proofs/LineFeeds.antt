@@ -30,7 +30,7 @@ use Rattle.sarif_inputs.specs.Faults.{faults_of}
 use Rattle.sarif_inputs.specs.Inputs.{Inputs}
 use Rattle.sarif_merge.specs.Life.{merge_in}
 use Rattle.sarif_merge.specs.MergedLog as log
-use Rattle.sarif_merge.specs.MergedLog.{current_of, file_given}
+use Rattle.sarif_merge.specs.MergedLog.{file_given, limited_of}
 use Rattle.sarif_merge.proofs.Unkept.{file_was_read}
 use Rattle.sarif_upkeep.specs.Internal.IsMatched.{IsFileOf}
 use Rattle.sarif_upkeep.specs.Life.{unused_in}
@@ -137,5 +137,5 @@ unused_lines inputs policy none =
     let file = file_given inputs in
     let given : IsFileOf inputs.suppressions file = file_was_read inputs.suppressions inputs.today file (input_file inputs none) in
     let few = few_given inputs.suppressions file given in
-    lines_counted file (current_of inputs) 0 file.entries (entries_in (file_object inputs.suppressions)) (values_long inputs.suppressions file given)
+    lines_counted file (limited_of inputs) 0 file.entries (entries_in (file_object inputs.suppressions)) (values_long inputs.suppressions file given)
     (omega (arith, few))

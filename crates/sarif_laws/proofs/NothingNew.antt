@@ -1,9 +1,9 @@
 -- The law of adopting.
 use Rattle.std.proofs.Common.{◌≡◌, ◌+◌, ◌<◌, ◌≤◌, ◌&&◌, ◌||◌, ◌++◌, ℕ, zero, suc, Bool, true, false, List, [], ◌∷◌, map, length, take, drop, get_or, Some, Ok, refl, sym, ap, ap₂, subst, ◌∙◌, arith, length-append, append-nil}
-use Rattle.std.specs.Prelude.{cond, count_by, flat_map, nat_lt}
+use Rattle.std.specs.Prelude.{bytes_eq, cond, count_by, flat_map, nat_lt}
 use Rattle.std.specs.List.{AllByRecursion, AllZip}
 use Rattle.std.proofs.lemmas.Bool.{ltb-false, ltb-true}
-use Rattle.std.proofs.lemmas.List.{get_or_past, length-map, take-append-drop}
+use Rattle.std.proofs.lemmas.List.{get_or_past, length-map, map-append, take-append-drop}
 use Rattle.std.proofs.lemmas.List.Concat.{flat_map-append}
 use Rattle.std.proofs.lemmas.List.Sums.{sum_by-append, sum_by-cons}
 use Rattle.std.proofs.lemmas.Option.{slice_get-get_or}
@@ -21,8 +21,10 @@ use Rattle.sarif_counts.specs.CountOf.{count_of}
 use Rattle.sarif_counts.specs.Hits.{hits_of}
 use Rattle.sarif_entries.specs.File.{File}
 use Rattle.sarif_findings.specs.Reported.{is_active, level_in, state_in}
-use Rattle.sarif_match.specs.Evidence.{state_in as matched_state}
-use Rattle.sarif_match.proofs.StateLemmas.{equal_is_unchanged}
+use Rattle.sarif_evidence.specs.Evidence.{state_in as matched_state}
+use Rattle.sarif_evidence.specs.declared.version.MatchingVersion.{MatchingVersion}
+use Rattle.sarif_evidence.specs.declared.version.MatchingVersion.TheVariants.{Two, Three}
+use Rattle.sarif_evidence.proofs.StateLemmas.{equal_is_unchanged}
 use Rattle.sarif_runs.specs.Judging.{run_values}
 use Rattle.sarif_runs.specs.Record.{record_of}
 use Rattle.sarif_results.specs.Annotated.{own_suppressions}
@@ -33,6 +35,7 @@ use Rattle.sarif_known.specs.KnownRun.{known_run}
 use Rattle.sarif_runs.specs.declared.run_options.RecordOptions.{RecordOptions}
 use Rattle.sarif_runs.specs.Placed.{AreReadWith}
 use Rattle.sarif_known.specs.Laws.{IsOfTool}
+use Rattle.sarif_suppress.specs.Limited.{AreUnspent, with_spent}
 use Rattle.sarif_known.specs.declared.standing.Standing.{Standing}
 use Rattle.sarif_known.specs.Selected.{is_left_out, keep_unless, known_of, unmatched_of}
 use Rattle.sarif_read.specs.Reading.{log_of}
@@ -42,10 +45,11 @@ use Rattle.sarif_inputs.proofs.ReadFacts.{baseline_sides, log_sides, read_alike}
 use Rattle.sarif_inputs.proofs.SourceRuns.{data_placed}
 use Rattle.sarif_log.specs.LogBy.{listing_of, taken_of}
 use Rattle.sarif_log.specs.MergedRuns.{absent_runs, written}
+use Rattle.sarif_log.proofs.Limits.{records_unspent}
 use Rattle.sarif_log.proofs.Told.{state_told}
 use Rattle.sarif_merge.specs.Life.{merge_in}
 use Rattle.sarif_merge.specs.MergedLog.{current_of, file_given, runs_written, written_inputs}
-use Rattle.sarif_merge.specs.OwnResult.{IsResult, baseline_of, number_among_all, partner_at, run_at, written_run}
+use Rattle.sarif_merge.specs.OwnResult.{IsResult, baseline_of, number_among_all, partner_at, run_at, spent_at, written_run}
 use Rattle.sarif_merge.proofs.OwnResult.{faultless_runs, own_result, runs_same}
 use Rattle.sarif_merge.proofs.ReadObjects.{objects_in}
 use Rattle.sarif_upkeep.specs.Heard.{heard}
@@ -53,7 +57,7 @@ use Rattle.sarif_upkeep.specs.Known.{adopts, chosen_now, known_before, known_now
 use Rattle.sarif_upkeep.proofs.Taken.{known_fewer}
 use Rattle.sarif_laws.specs.Adopting.{HasNothingNew, IsAbsentOf, IsNextWith, of_tool, results_kept, results_unmatched}
 use Rattle.sarif_laws.specs.Hits.{fails_on, is_hit_in, lists}
-use Rattle.sarif_laws.specs.KnownAgain.{IsKnownAgain}
+use Rattle.sarif_laws.specs.KnownAgain.{IsKnownAgain, as_read, run_as_read}
 use Rattle.sarif_laws.specs.NextMerge.{absent_written}
 use Rattle.sarif_laws.proofs.AbsentKept.{absent_zip}
 use Rattle.sarif_laws.proofs.Accepted.{input_run, no_result}
@@ -61,11 +65,12 @@ use Rattle.sarif_laws.proofs.Adopted.{own_unchanged, same_long}
 use Rattle.sarif_laws.proofs.ByTool.{IsOfOne, known_of_tool, records_among}
 use Rattle.sarif_laws.proofs.ByVersion.{matched_in, turn, turn_among, unmatched_in}
 use Rattle.sarif_laws.proofs.Counted.{hits_counted, none_fails}
-use Rattle.sarif_laws.proofs.KnownRuns.{before_sound, IsChosenSound, now_sound}
-use Rattle.sarif_laws.proofs.Lists.{same_counts}
+use Rattle.sarif_laws.proofs.KnownRuns.{all_again, before_sound, IsChosenAgain, IsChosenSound, now_sound}
+use Rattle.sarif_laws.proofs.Limited.{read_limited, read_unspent}
+use Rattle.sarif_laws.proofs.Lists.{all_append, same_counts}
 use Rattle.sarif_laws.proofs.OfTool.{sources_sound}
 use Rattle.sarif_laws.proofs.Places.{has_place}
-use Rattle.sarif_laws.proofs.Remembered.{faultless_before}
+use Rattle.sarif_laws.proofs.Remembered.{faultless_before, runs_alike}
 use Rattle.sarif_laws.proofs.SameLogs.{same_current}
 
 -- ---- nothing is left out
@@ -111,13 +116,41 @@ whole_now file policy adopt (run ∷ runs) rs states long =
     (whole_now file policy adopt runs (drop n rs) (drop n states) (omega (arith, long, parts, sum, first, others)))
     ∙ take-append-drop n rs
 
-of_one : (options : RecordOptions) (tool : List ℕ) (rs : List Record) → AllByRecursion (IsOfTool options tool) rs → AllByRecursion (λ r. r.tool ≡ tool) rs
+of_one : (options : RecordOptions) (tool : List ℕ) (rs : List Record) → AllByRecursion (λ r. IsOfTool options tool (as_read r)) rs
+    → AllByRecursion (λ r. r.tool ≡ tool) rs
 of_one options tool [] all = tt
 of_one options tool (r ∷ rs) all = (all.0.tool_is, of_one options tool rs all.1)
 
-all_of_one : (options : RecordOptions) (runs : List Chosen) → AllByRecursion (IsChosenSound options) runs → AllByRecursion IsOfOne runs
+all_of_one : (options : RecordOptions) (runs : List Chosen) → AllByRecursion (IsChosenAgain options) runs → AllByRecursion IsOfOne runs
 all_of_one options [] all = tt
 all_of_one options (run ∷ runs) all = (of_one options run.tool run.records all.0, all_of_one options runs all.1)
+
+-- ---- records as they are read
+
+of_read : (tool : List ℕ) (rs : List Record) → of_tool tool (map as_read rs) ≡ map as_read (of_tool tool rs)
+of_read tool [] = refl
+of_read tool (r ∷ rs) =
+    elim (bytes_eq r.tool tool) as
+    (λ b. cond b (as_read r ∷ of_tool tool (map as_read rs)) (of_tool tool (map as_read rs)) ≡ map as_read (cond b (r ∷ of_tool tool rs) (of_tool tool rs)))
+    [ true ↦ ap (λ l. as_read r ∷ l) (of_read tool rs) | false ↦ of_read tool rs ]
+
+among_read : (runs : List Chosen) → records_among (map run_as_read runs) ≡ map as_read (records_among runs)
+among_read [] = refl
+among_read (run ∷ runs) =
+    ap (λ l. map as_read run.records ++ l) (among_read runs) ∙ sym (map-append as_read run.records (records_among runs))
+
+turn_read : (v : MatchingVersion) (cs more : List Record) → map as_read (turn v cs more) ≡ turn v (map as_read cs) (map as_read more)
+turn_read Two cs more = map-append as_read cs more
+turn_read Three cs more = map-append as_read more cs
+
+one_unspent : (options : RecordOptions) (tool : List ℕ) (rs : List Record) → AllByRecursion (IsOfTool options tool) rs → AreUnspent rs
+one_unspent options tool [] all = tt
+one_unspent options tool (r ∷ rs) all = (all.0.readable.unspent, one_unspent options tool rs all.1)
+
+among_unspent : (options : RecordOptions) (runs : List Chosen) → AllByRecursion (IsChosenSound options) runs → AreUnspent (records_among runs)
+among_unspent options [] all = tt
+among_unspent options (run ∷ runs) all =
+    all_append (λ r. r.spent ≡ []) run.records (records_among runs) (one_unspent options run.tool run.records all.0) (among_unspent options runs all.1)
 
 -- ---- objects
 
@@ -174,30 +207,44 @@ module _ (inputs : Inputs) (policy : Policy) (knowing : Knowing) (known : List �
     (whole : (remembered (merge_in inputs policy) knowing).left_out ≡ 0)
     (again : IsKnownAgain (record_options inputs.checks) (runs_known (merge_in inputs policy) knowing) known)
     (next : IsNextWith inputs known later) where
+  -- the runs of the known log, as they are read
   abbrev runs : List Chosen
-  runs = runs_known (merge_in inputs policy) knowing
+  runs = map run_as_read (runs_known (merge_in inputs policy) knowing)
 
   options_same : record_options later.checks ≡ record_options inputs.checks
   options_same = λ i. record { regions = looks_at_regions (next.matching i) || next.once i; ignored = next.ignored i }
+
+  now_read : map as_read (merge_in inputs policy).records ≡ current_of inputs
+  now_read = read_limited (file_given inputs) (current_of inputs) (records_unspent (input_runs inputs))
 
   now_own : AllByRecursion IsOfOne (known_now (merge_in inputs policy) (adopts knowing))
   now_own =
       let m = merge_in inputs policy in
       all_of_one (record_options inputs.checks) (known_now m (adopts knowing))
-      (now_sound (record_options inputs.checks) m.file m.policy (adopts knowing) (input_runs inputs) m.standings (faultless_runs inputs sound)
-      (log_sides inputs.checks 0 inputs.logs) (sources_sound inputs.checks Log 0 inputs.logs))
+      (now_sound (record_options inputs.checks) m.file m.policy (adopts knowing) (input_runs inputs) m.records m.standings now_read
+      (faultless_runs inputs sound) (log_sides inputs.checks 0 inputs.logs) (sources_sound inputs.checks Log 0 inputs.logs))
+
+  before_own_options : AllByRecursion (IsChosenSound (record_options inputs.checks)) (known_before (merge_in inputs policy))
+  before_own_options =
+      let m = merge_in inputs policy in
+      before_sound (record_options inputs.checks) (heard m.runs) (baseline_runs inputs) m.taken (faultless_before inputs sound)
+      (baseline_sides inputs.checks 0 inputs.baselines) (sources_sound inputs.checks Baseline 0 inputs.baselines)
 
   before_own : AllByRecursion IsOfOne (known_before (merge_in inputs policy))
   before_own =
       let m = merge_in inputs policy in
-      all_of_one (record_options inputs.checks) (known_before m)
-      (before_sound (record_options inputs.checks) (heard m.runs) (baseline_runs inputs) m.taken (faultless_before inputs sound)
-      (baseline_sides inputs.checks 0 inputs.baselines) (sources_sound inputs.checks Baseline 0 inputs.baselines))
+      all_of_one (record_options inputs.checks) (known_before m) (all_again (record_options inputs.checks) (known_before m) before_own_options)
 
-  all_now : records_among (known_now (merge_in inputs policy) (adopts knowing)) ≡ current_of later
+  kept_read : map as_read (results_kept inputs policy) ≡ results_kept inputs policy
+  kept_read =
+      read_unspent (results_kept inputs policy)
+      (among_unspent (record_options inputs.checks) (known_before (merge_in inputs policy)) before_own_options)
+
+  all_now : map as_read (records_among (known_now (merge_in inputs policy) (adopts knowing))) ≡ current_of later
   all_now =
       let m = merge_in inputs policy in
-      whole_now m.file m.policy (adopts knowing) m.runs m.records m.standings (omega (arith, whole)) ∙ same_current inputs later next.logs (sym options_same) sound next.faultless
+      ap (map as_read) (whole_now m.file m.policy (adopts knowing) m.runs m.records m.standings (omega (arith, whole))) ∙ now_read
+      ∙ same_current inputs later next.logs (sym options_same) sound next.faultless
 
   -- the runs of the known log
   baseline_is : run_values (baseline_runs later) ≡ map known_run runs
@@ -208,19 +255,26 @@ module _ (inputs : Inputs) (policy : Policy) (knowing : Knowing) (known : List �
       ∙ ap run_values (append-nil (placed_from later.checks (Baseline 0) 0 read))
       ∙ data_placed later.checks (Baseline 0) 0 read
       ∙ ap readable (again.log allow)
+      ∙ sym (runs_alike (runs_known (merge_in inputs policy) knowing))
 
   records_are : baseline_of later ≡ records_among runs
   records_are = (again.again (baseline_runs later)
-      (subst (λ options. AreReadWith options (baseline_runs later)) options_same (read_alike later.checks Baseline 0 later.baselines)) baseline_is).records
+      (subst (λ options. AreReadWith options (baseline_runs later)) options_same (read_alike later.checks Baseline 0 later.baselines))
+      (baseline_is ∙ runs_alike (runs_known (merge_in inputs policy) knowing))).records
 
   same_tools : (tool : List ℕ) → of_tool tool (baseline_of later) ≡ of_tool tool (turn later.checks.matching (current_of later) (results_kept inputs policy))
   same_tools tool =
       let m = merge_in inputs policy in
       let now = known_now m (adopts knowing) in
-      ap (of_tool tool) records_are ∙ known_of_tool tool m.matching now (known_before m) now_own before_own
-      ∙ ap (of_tool tool) (turn_among m.matching now (known_before m))
-      ∙ ap (λ l. of_tool tool (turn m.matching l (results_kept inputs policy))) all_now
-      ∙ ap (λ v. of_tool tool (turn v (current_of later) (results_kept inputs policy))) (sym next.matching)
+      let kept = results_kept inputs policy in
+      ap (of_tool tool) (records_are ∙ among_read (runs_known m knowing))
+      ∙ of_read tool (records_among (runs_known m knowing))
+      ∙ ap (map as_read) (known_of_tool tool m.matching now (known_before m) now_own before_own
+      ∙ ap (of_tool tool) (turn_among m.matching now (known_before m)))
+      ∙ sym (of_read tool (turn m.matching (records_among now) kept))
+      ∙ ap (of_tool tool) (turn_read m.matching (records_among now) kept)
+      ∙ ap₂ (λ cs more. of_tool tool (turn m.matching cs more)) all_now kept_read
+      ∙ ap (λ v. of_tool tool (turn v (current_of later) kept)) (sym next.matching)
 
   matched_there : (k seq : ℕ) (r : Record) → IsResult later k seq → record_of (record_options later.checks) (run_at later k) seq ≡ Ok r
       → partner_at later (number_among_all later k seq) ≡ Some r
@@ -235,12 +289,14 @@ module _ (inputs : Inputs) (policy : Policy) (knowing : Knowing) (known : List �
       let own = own_result later k seq next.faultless there in
       let r = own.0 in
       let d = result_at (run_at later k) seq in
+      let listed = listing_of (file_given later) in
+      let as_written : Record = with_spent r (spent_at later (number_among_all later k seq)) in
       let in_runs : k < length (run_values (input_runs later)) = omega (arith, there.0, length-map (input_runs later) (λ p. p.run)) in
       let has = get_object (results_of (run_at later k)) seq there.1 (run_objects (run_values (input_runs later)) k in_runs (objects_in (log_sources later))) in
       ap state_in own.2
-      ∙ ap (λ partner. state_in (written (listing_of (file_given later)) r (matched_state later.checks.matching r partner) d)) (matched_there k seq r there own.1)
-      ∙ ap (λ state. state_in (written (listing_of (file_given later)) r state d)) (own_unchanged later.checks.matching r)
-      ∙ state_written (listing_of (file_given later)) r Unchanged d has
+      ∙ ap (λ partner. state_in (written listed as_written (matched_state later.checks.matching r partner) d)) (matched_there k seq r there own.1)
+      ∙ ap (λ state. state_in (written listed as_written state d)) (own_unchanged later.checks.matching r)
+      ∙ state_written listed as_written Unchanged d has
 
   others_there : (tool : List ℕ) → of_tool tool (results_unmatched later) ≡ of_tool tool (results_kept inputs policy)
   others_there = unmatched_in later.checks.matching (current_of later) (results_kept inputs policy) (baseline_of later) same_tools

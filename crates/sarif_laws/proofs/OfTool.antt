@@ -16,7 +16,7 @@ use Rattle.sarif_runs.specs.Record.{record_of}
 use Rattle.sarif_inputs.specs.Inputs.{numbered, placed, placed_from, readable, record_options}
 use Rattle.sarif_runs.specs.declared.run_options.RecordOptions.{RecordOptions}
 use Rattle.sarif_known.specs.Laws.{IsOfTool}
-use Rattle.sarif_known.proofs.Readable.{read_sound}
+use Rattle.sarif_known_laws.proofs.Readable.{read_sound}
 use Rattle.sarif_laws.proofs.Lists.{all_append}
 use Rattle.sarif_laws.proofs.Read.{in_run}
 

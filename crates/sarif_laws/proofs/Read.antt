@@ -28,7 +28,7 @@ use Rattle.sarif_runs.specs.declared.run_options.RecordOptions.{RecordOptions}
 use Rattle.sarif_runs.specs.Record.{record_by, record_in, record_of}
 use Rattle.sarif_results.specs.Annotated.{own_suppressions}
 use Rattle.sarif_accept.specs.Until.{HasGuid}
-use Rattle.sarif_known.proofs.Readable.{AreReadFrom, parts_read}
+use Rattle.sarif_known_laws.proofs.Readable.{AreReadFrom, parts_read}
 use Rattle.sarif_laws.proofs.Lists.{all_append}
 
 pub ok_is : {A E : Type 0} (x y : A) → ◌≡◌ {A = Result A E} (Ok x) (Ok y) → x ≡ y

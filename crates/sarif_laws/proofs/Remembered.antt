@@ -1,6 +1,7 @@
 -- The known log of a merge is read as its runs.
-use Rattle.std.proofs.Common.{◌≡◌, ◌+◌, ◌≤◌, ◌++◌, ℕ, Bool, true, false, List, [], ◌∷◌, length, refl, sym, ap, ◌∙◌, arith, length-append}
-use Rattle.std.specs.Prelude.{nat_lt}
+use Rattle.std.proofs.Common.{◌≡◌, ◌+◌, ◌≤◌, ◌++◌, ℕ, Bool, true, false, List, [], ◌∷◌, length, map, Ok, refl, sym, ap, ap₂, subst, ◌∙◌, arith, length-append}
+use Rattle.std.specs.Prelude.{Some, codes, nat_lt, option_map}
+use Rattle.std.specs.List.{AllByRecursion}
 use Rattle.std.specs.Str.{IsUtf8}
 use Rattle.std.proofs.lemmas.Bool.{ltb-false}
 use Rattle.std.proofs.lemmas.List.{length-map, map-append}
@@ -9,10 +10,13 @@ use Rattle.json.specs.Tree as tree
 use Rattle.json.proofs.Printed.Decimals.{IsNumber-decimal}
 use Rattle.json.proofs.Printed.Trees.{ArePrintable-json_tokens}
 use Rattle.serde_json.specs.Data.{Data, null, boolean, number, unsigned, negative, float, string, array, object, Items, no_items, item, Members, no_members, member}
+use Rattle.serde_json.specs.View.{items_of}
 use Rattle.serde_json.specs.Written.{items_outline, members_outline, outline}
+use Rattle.sarif_model.specs.declared.record.Record.{Record}
 use Rattle.sarif_model.specs.declared.merge_fault.Source.TheVariants.{Log, Baseline}
 use Rattle.sarif_model.specs.Limits.{most_results, most_runs}
 use Rattle.sarif_model.specs.Run.{results_total}
+use Rattle.sarif_model.specs.Written.{list_if_any}
 use Rattle.sarif_options.specs.declared.policy.Policy.{Policy}
 use Rattle.sarif_options.specs.declared.upkeep.Knowing.{Knowing}
 use Rattle.sarif_runs.specs.Judging.{faults_of_runs, run_faults, run_values}
@@ -24,8 +28,12 @@ use Rattle.sarif_inputs.specs.Inputs.{Inputs, Sourced, all_runs, all_sources, ba
 use Rattle.sarif_inputs.specs.SourceFaults.{limit_faults, reading_faults, source_faults}
 use Rattle.sarif_inputs.proofs.ReadFacts.{baseline_sides, log_sides, placed-append}
 use Rattle.sarif_inputs.proofs.SourceRuns.{data_placed}
+use Rattle.sarif_known.specs.Chosen.{Chosen, results_among}
 use Rattle.sarif_known.specs.KnownLog.{known_log, known_text, pretty_text}
-use Rattle.sarif_known.specs.Laws.{CanBeRead}
+use Rattle.sarif_known.specs.KnownResult.{known_result, object_from}
+use Rattle.sarif_known.specs.KnownRun.{artifact_at, base_alone, bases_alone, known_run, next_number, results_from, tool_named, with_some}
+use Rattle.sarif_known.specs.Laws.{CanBeRead, IsOfTool}
+use Rattle.sarif_runs.specs.declared.run_options.RecordOptions.{RecordOptions}
 use Rattle.sarif_known.proofs.KnownPlain.{log_plain}
 use Rattle.sarif_known.proofs.LogBack.{log_back, text_read}
 use Rattle.sarif_known.proofs.Plain.{AreItemsPlain, AreMembersPlain, IsPlain}
@@ -34,9 +42,12 @@ use Rattle.sarif_merge.specs.Life.{merge_in}
 use Rattle.sarif_merge.proofs.OwnResult.{faultless_runs}
 use Rattle.sarif_upkeep.specs.Heard.{heard}
 use Rattle.sarif_upkeep.specs.Known.{adopts, known_before, known_now, runs_known}
-use Rattle.sarif_laws.specs.KnownAgain.{IsKnownAgain}
+use Rattle.sarif_log.proofs.Limits.{records_unspent}
+use Rattle.sarif_merge.specs.MergedLog.{current_of, file_given}
+use Rattle.sarif_laws.specs.KnownAgain.{IsKnownAgain, as_read, run_as_read}
 use Rattle.sarif_laws.proofs.Grouping.{known_total, total_results, total_runs}
-use Rattle.sarif_laws.proofs.KnownRuns.{before_few, before_long, before_sound, grouped_sound, now_few, now_long, now_sound}
+use Rattle.sarif_laws.proofs.KnownRuns.{IsChosenAgain, all_again, before_few, before_long, before_sound, grouped_sound, now_few, now_long, now_sound}
+use Rattle.sarif_laws.proofs.Limited.{read_limited}
 use Rattle.sarif_laws.proofs.OfTool.{sources_sound}
 use Rattle.sarif_laws.proofs.Printed.{pretty_tokens}
 
@@ -96,10 +107,53 @@ faultless_before inputs none =
     no_faults_left (faults_of_runs (input_runs inputs)) (faults_of_runs (baseline_runs inputs))
     (sym (flat_map-append run_faults (input_runs inputs) (baseline_runs inputs)) ∙ (all_faultless inputs none).1)
 
+-- ---- its runs as they are read
+
+records_again : (options : RecordOptions) (tool : List ℕ) (rs : List Record) → AllByRecursion (λ r. IsOfTool options tool (as_read r)) rs
+    → AllByRecursion (IsOfTool options tool) (map as_read rs)
+records_again options tool [] all = tt
+records_again options tool (r ∷ rs) all = (all.0, records_again options tool rs all.1)
+
+runs_again : (options : RecordOptions) (runs : List Chosen) → AllByRecursion (IsChosenAgain options) runs
+    → AllByRecursion (λ run. AllByRecursion (IsOfTool options run.tool) run.records) (map run_as_read runs)
+runs_again options [] all = tt
+runs_again options (run ∷ runs) all = (records_again options run.tool run.records all.0, runs_again options runs all.1)
+
+as_many_results : (runs : List Chosen) → results_among (map run_as_read runs) ≡ results_among runs
+as_many_results [] = refl
+as_many_results (run ∷ runs) = ap₂ (λ m n. m + n) (length-map run.records as_read) (as_many_results runs)
+
+results_alike : (n : ℕ) (rs : List Record) → results_from n (map as_read rs) ≡ results_from n rs
+results_alike n [] = refl
+results_alike n (r ∷ rs) = ap (λ l. known_result r (option_map (λ _. n) (base_alone r)) ∷ l) (results_alike (next_number n (base_alone r)) rs)
+
+bases_alike : (rs : List Record) → bases_alone (map as_read rs) ≡ bases_alone rs
+bases_alike [] = refl
+bases_alike (r ∷ rs) = ap (with_some (base_alone r)) (bases_alike rs)
+
+run_alike : (run : Chosen) → known_run (run_as_read run) ≡ known_run run
+run_alike run =
+    ap₂ (λ bases results. object_from ((codes "artifacts", list_if_any (map artifact_at bases))
+    ∷ (codes "results", Some (array (items_of results)))
+    ∷ (codes "tool", Some (tool_named run.tool))
+    ∷ [])) (bases_alike run.records) (results_alike 0 run.records)
+
+-- they are written the same
+pub runs_alike : (runs : List Chosen) → map known_run (map run_as_read runs) ≡ map known_run runs
+runs_alike [] = refl
+runs_alike (run ∷ runs) = ap₂ (λ x xs. x ∷ xs) (run_alike run) (runs_alike runs)
+
+log_alike : (runs : List Chosen) → known_log (map run_as_read runs) ≡ known_log runs
+log_alike runs =
+    ap (λ ds. object (member (codes "runs") (array (items_of ds)) (member (codes "version") (string (codes "2.1.0")) no_members))) (runs_alike runs)
+
 -- ---- the known log can be read
 
 module _ (inputs : Inputs) (policy : Policy) (knowing : Knowing) (none : faults_of inputs ≡ []) where
-  can_be_read : CanBeRead (record_options inputs.checks) (runs_known (merge_in inputs policy) knowing)
+  records_read : map as_read (merge_in inputs policy).records ≡ current_of inputs
+  records_read = read_limited (file_given inputs) (current_of inputs) (records_unspent (input_runs inputs))
+
+  can_be_read : CanBeRead (record_options inputs.checks) (map run_as_read (runs_known (merge_in inputs policy) knowing))
   can_be_read =
       let m = merge_in inputs policy in
       let adopt = adopts knowing in
@@ -116,13 +170,16 @@ module _ (inputs : Inputs) (policy : Policy) (knowing : Knowing) (none : faults_
       let now_fits = now_few m.file m.policy adopt m.runs m.records m.standings in
       let before_fits = before_few (heard m.runs) m.before m.known m.taken in
       record {
-        each = grouped_sound (record_options inputs.checks) m.matching now before
-            (now_sound (record_options inputs.checks) m.file m.policy adopt (input_runs inputs) m.standings (faultless_runs inputs none) (log_sides inputs.checks 0 inputs.logs)
-            (sources_sound inputs.checks Log 0 inputs.logs))
+        each = runs_again (record_options inputs.checks) (runs_known m knowing)
+            (grouped_sound (record_options inputs.checks) m.matching now before
+            (now_sound (record_options inputs.checks) m.file m.policy adopt (input_runs inputs) m.records m.standings records_read
+            (faultless_runs inputs none) (log_sides inputs.checks 0 inputs.logs) (sources_sound inputs.checks Log 0 inputs.logs))
+            (all_again (record_options inputs.checks) before
             (before_sound (record_options inputs.checks) (heard m.runs) (baseline_runs inputs) m.taken (faultless_before inputs none)
-            (baseline_sides inputs.checks 0 inputs.baselines) (sources_sound inputs.checks Baseline 0 inputs.baselines));
+            (baseline_sides inputs.checks 0 inputs.baselines) (sources_sound inputs.checks Baseline 0 inputs.baselines))));
         few_runs = omega (
           arith,
+          length-map (runs_known m knowing) run_as_read,
           known_total (λ _. 1) m.matching now before,
           total_runs (runs_known m knowing),
           total_runs now,
@@ -136,6 +193,7 @@ module _ (inputs : Inputs) (policy : Policy) (knowing : Knowing) (none : faults_
         );
         few_results = omega (
           arith,
+          as_many_results (runs_known m knowing),
           known_total (λ run. length run.records) m.matching now before,
           total_results (runs_known m knowing),
           total_results now,
@@ -173,14 +231,16 @@ pub known_read : (inputs : Inputs) (policy : Policy) (knowing : Knowing) → fau
     → IsKnownAgain (record_options inputs.checks) (runs_known (merge_in inputs policy) knowing) (known_text (runs_known (merge_in inputs policy) knowing))
 known_read inputs policy knowing none utf8 =
     let runs = runs_known (merge_in inputs policy) knowing in
+    let again = map run_as_read runs in
     let options = record_options inputs.checks in
     let can = can_be_read inputs policy knowing none in
     let d = known_log runs in
-    let same =
-    pretty_tokens (tree.json_tokens (outline d))
-    (ArePrintable-json_tokens (outline d) (plain_numbers d (log_plain options runs can.each can.few_results))) in
-    let value = text_read options runs (pretty_text d) can refl same utf8 in
+    let same : known_log again ≡ d = log_alike runs in
+    let plain : IsPlain d = subst IsPlain same (log_plain options again can.each can.few_results) in
+    let tokens_are = pretty_tokens (tree.json_tokens (outline d)) (ArePrintable-json_tokens (outline d) (plain_numbers d plain)) in
+    let value =
+    text_read options again (pretty_text d) can (ap pretty_text (sym same)) (tokens_are ∙ ap (λ x. tree.json_tokens (outline x)) (sym same)) utf8 in
     record {
-      log = λ allow. log_back options allow runs (known_text runs) can value;
-      again = λ placed alike are. known_again options runs placed alike are can.each can.few_results;
+      log = λ allow. log_back options allow again (known_text runs) can value ∙ ap Ok (runs_alike runs);
+      again = λ placed alike are. known_again options again placed alike (are ∙ sym (runs_alike runs)) can.each can.few_results;
     }

@@ -3,15 +3,15 @@ use Rattle.std.proofs.Common.{◌≡◌, ℕ, ◌+◌, List, [], ◌∷◌, map,
 use Rattle.std.specs.List.{range_with_len}
 use Rattle.std.proofs.lemmas.List.{length-map}
 use Rattle.sarif_model.specs.declared.record.Record.{Record}
-use Rattle.sarif_match.specs.declared.version.MatchingVersion.{MatchingVersion}
+use Rattle.sarif_evidence.specs.declared.version.MatchingVersion.{MatchingVersion}
 use Rattle.sarif_match.specs.Partners.{is_taken, partners_in}
 use Rattle.sarif_runs.specs.Judging.{run_values}
 use Rattle.sarif_known.specs.Laws.{AreAlike, without_own}
-use Rattle.sarif_known.proofs.SamePartners.{same_partners, same_states}
+use Rattle.sarif_known_laws.proofs.SamePartners.{same_partners, same_states}
 use Rattle.sarif_inputs.specs.Inputs.{Inputs, input_runs}
 use Rattle.sarif_log.specs.LogBy.{listing_of, states_from, states_of, taken_of}
 use Rattle.sarif_log.specs.MergedRuns.{merged_runs}
-use Rattle.sarif_merge.specs.MergedLog.{current_of, file_given}
+use Rattle.sarif_merge.specs.MergedLog.{current_of, file_given, limited_of}
 use Rattle.sarif_merge.specs.OwnResult.{baseline_of}
 use Rattle.sarif_laws.specs.SameBaseline.{HasSameResults, with_baselines}
 
@@ -36,7 +36,7 @@ same_results inputs baselines alike =
     let others = baseline_of (with_baselines inputs baselines) in
     record {
       written =
-          ap (λ states. merged_runs (listing_of (file_given inputs)) (current_of inputs) states (run_values (input_runs inputs)))
+          ap (λ states. merged_runs (listing_of (file_given inputs)) (limited_of inputs) states (run_values (input_runs inputs)))
           (sym (all_states_same inputs.checks.matching bs others alike (current_of inputs)));
       matched = sym (taken_same inputs.checks.matching bs others alike (current_of inputs));
     }

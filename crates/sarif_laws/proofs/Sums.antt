@@ -12,14 +12,16 @@ use Rattle.sarif_counts.specs.declared.gate_verdict.Verdict.TheVariants.{Fail, P
 use Rattle.sarif_counts.specs.CountOf.{count_of}
 use Rattle.sarif_counts.proofs.CountAppend.{count_of-append}
 use Rattle.sarif_findings.proofs.HitsCounted.{hits_add, hits_same}
-use Rattle.sarif_match.specs.declared.version.MatchingVersion.{MatchingVersion}
+use Rattle.sarif_evidence.specs.declared.version.MatchingVersion.{MatchingVersion}
 use Rattle.sarif_match_laws.specs.ByTool.{HaveNoToolInCommon}
 use Rattle.sarif_runs.specs.Judging.{run_values}
 use Rattle.sarif_results.specs.Drafts.{Listing}
+use Rattle.sarif_suppress.specs.Limited.{limited}
 use Rattle.sarif_results.proofs.JudgedCounts.{records_of_logs}
 use Rattle.sarif_log.specs.Internal.Texts.{present_results}
 use Rattle.sarif_log.specs.LogBy.{listing_of, states_of, taken_of}
 use Rattle.sarif_log.specs.MergedRuns.{absent_runs, merged_runs}
+use Rattle.sarif_log.proofs.Limits.{limited_long}
 use Rattle.sarif_log.proofs.Sides.{records_present, states_long, taken_long}
 use Rattle.sarif_match.specs.Partners.{partners_in}
 use Rattle.sarif_inputs.specs.Faults.{faults_of}
@@ -27,14 +29,15 @@ use Rattle.sarif_inputs.specs.Inputs.{Inputs, baseline_runs, input_runs}
 use Rattle.sarif_inputs.proofs.ReadFacts.{baseline_sides, log_sides}
 use Rattle.sarif_inputs_laws.specs.Parts.{HasParts, IsMatchedAs, baseline_in, current_in, with_sources}
 use Rattle.sarif_inputs_laws.proofs.Parts.{accepted_parts, matched_parts}
-use Rattle.sarif_merge.specs.MergedLog.{current_of, file_given, without_of, written_inputs}
+use Rattle.sarif_merge.specs.MergedLog.{current_of, file_given, limited_of, without_of, written_inputs}
 use Rattle.sarif_merge.specs.OwnResult.{baseline_of}
 use Rattle.sarif_merge.proofs.OwnResult.{faultless_runs}
 use Rattle.sarif_laws.specs.NextMerge.{absent_written}
-use Rattle.sarif_laws.specs.Sums.{IsSumOf, Passes, counts_in, hits_in}
+use Rattle.sarif_laws.specs.Sums.{IsSumOf, Passes, counts_in, hits_in, is_limited_by_tool}
 use Rattle.sarif_laws.proofs.Counted.{none_fails}
 use Rattle.sarif_laws.proofs.Joined.{absent_joined, marks_both, merged_joined, states_both}
 use Rattle.sarif_laws.proofs.Remembered.{faultless_before}
+use Rattle.sarif_laws.proofs.ToolLimits.{first_parts, limited_both}
 
 -- ---- numbers
 
@@ -68,7 +71,8 @@ module _ (inputs : Inputs) (logs more baselines others : List (List ℕ)) where
   abbrev both : Inputs
   both = with_sources inputs (logs ++ more) (baselines ++ others)
 
-  module _ (none : faults_of both ≡ []) (apart : HaveNoToolInCommon (current_in one ++ baseline_in one) (current_in other ++ baseline_in other)) where
+  module _ (none : faults_of both ≡ []) (names : is_limited_by_tool (file_given inputs) ≡ true)
+      (apart : HaveNoToolInCommon (current_in one ++ baseline_in one) (current_in other ++ baseline_in other)) where
     abbrev v : MatchingVersion
     v = inputs.checks.matching
 
@@ -84,16 +88,24 @@ module _ (inputs : Inputs) (logs more baselines others : List (List ℕ)) where
     records_long : length (current_of one) ≡ results_total (run_values (input_runs one))
     records_long = records_of_logs (input_runs one) (faultless_runs one parts.first_faultless) (log_sides inputs.checks 0 logs)
 
+    limited_as_long : length (limited_of one) ≡ results_total (run_values (input_runs one))
+    limited_as_long = limited_long (file_given inputs) (current_of one) ∙ records_long
+
     older_long : length (baseline_of one) ≡ length (present_results (run_values (baseline_runs one)))
     older_long = records_present (baseline_runs one) (faultless_before one parts.first_faultless) (baseline_sides inputs.checks 0 baselines)
 
     written_both : written_inputs both ≡ written_inputs one ++ written_inputs other
     written_both =
-        ap₂ (λ cs bs. merged_runs listed cs (states_of v cs bs) (run_values (input_runs both))) parts.current parts.baseline
-        ∙ ap₂ (λ ss runs. merged_runs listed (current_of one ++ current_of other) ss runs)
+        ap₂ (λ cs bs. merged_runs listed (limited (file_given inputs) cs) (states_of v cs bs) (run_values (input_runs both))) parts.current parts.baseline
+        ∙ ap₂ (λ ss runs. merged_runs listed (limited (file_given inputs) (current_of one ++ current_of other)) ss runs)
         (states_both v (current_of one) (baseline_of one) (current_of other) (baseline_of other) matched.each) parts.logs
-        ∙ merged_joined listed (current_of one) (current_of other) (states_of v (current_of one) (baseline_of one))
-        (states_of v (current_of other) (baseline_of other)) (run_values (input_runs one)) (run_values (input_runs other)) records_long
+        ∙ ap (λ rs. merged_runs listed rs
+        (states_of v (current_of one) (baseline_of one) ++ states_of v (current_of other) (baseline_of other))
+        (run_values (input_runs one) ++ run_values (input_runs other)))
+        (limited_both (file_given inputs) names (current_of one) (current_of other)
+        (first_parts (current_of one) (baseline_of one) (current_of other) (baseline_of other) apart))
+        ∙ merged_joined listed (limited_of one) (limited_of other) (states_of v (current_of one) (baseline_of one))
+        (states_of v (current_of other) (baseline_of other)) (run_values (input_runs one)) (run_values (input_runs other)) limited_as_long
         (states_long v (baseline_of one) (partners_in v (current_of one) (baseline_of one)) 0 (current_of one) ∙ records_long)
 
     absent_both : absent_written both ≡ absent_written one ++ absent_written other

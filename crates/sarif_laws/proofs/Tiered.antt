@@ -9,7 +9,8 @@ use Rattle.std.proofs.lemmas.Slice.Eq.{bytes_eq-Decides}
 use Rattle.sarif_model.specs.declared.record.Record.{Record}
 use Rattle.sarif_match.specs.declared.tier.Tier.{Tier}
 use Rattle.sarif_match.specs.declared.tier.Tier.TheVariants.{Guid, FingerprintHere, Fingerprint, PartialHere, PartialMoved, PlaceText, Place, PlaceLeft}
-use Rattle.sarif_match.specs.Key.{group_of, is_empty, key_of, value_of}
+use Rattle.sarif_match.specs.Key.{group_of, key_of, value_of}
+use Rattle.sarif_evidence.specs.EqualParts.{is_empty}
 use Rattle.sarif_match.specs.KeyParts.{KeyParts, guid_parts, fingerprint_parts, partial_here_parts, place_left_parts, place_parts}
 use Rattle.sarif_match.specs.Tiers.{falling_names, finer_tiers, has_name, names_of, rising_names, tiers_of}
 use Rattle.sarif_match.proofs.SortedLemmas.{has_names}

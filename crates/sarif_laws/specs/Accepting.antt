@@ -11,7 +11,7 @@ use Rattle.sarif_inputs.specs.Faults.{faults_of}
 use Rattle.sarif_inputs.specs.Inputs.{Inputs}
 use Rattle.sarif_merge.specs.MergedLog.{runs_written}
 use Rattle.sarif_laws.specs.Hits.{is_hit_in, stays_in, suppressions_listed}
-use Rattle.sarif_laws.specs.NextMerge.{absent_written, merged_result, merged_run_at, with_file}
+use Rattle.sarif_laws.specs.NextMerge.{KeepsMatches, absent_written, merged_result, merged_run_at, with_file}
 
 -- a result of the merged log, before accepting and after it: it is a hit if it was one that stays, it is suppressed if
 -- it was, it has its level and its state, and its list of suppressions begins with what it was
@@ -24,7 +24,7 @@ pub record IsLeft (policy : Policy) (before after : Data) : Type 0 where
       × (suppressions_listed after ≡ suppressions_listed before ++ rest)
 
 -- with this suppression file the merge of the same inputs has no errors; it has the same runs with as many results, and
--- each result is left at its place; absent results are written as before
+-- each result is left at its place; absent results are written as before; entries that are kept match the same results
 pub record LeavesWhatStays (inputs : Inputs) (policy : Policy) (text : List ℕ) : Type 0 where
   pub faultless : faults_of (with_file inputs text) ≡ []
   pub runs : length (runs_written (with_file inputs text)) ≡ length (runs_written inputs)
@@ -33,6 +33,7 @@ pub record LeavesWhatStays (inputs : Inputs) (policy : Policy) (text : List ℕ)
   pub results : (k seq : ℕ) → IsLeft policy (merged_result inputs k seq)
       (merged_result (with_file inputs text) k seq)
   pub absent : absent_written (with_file inputs text) ≡ absent_written inputs
+  pub matches : KeepsMatches inputs text
   -- so the gate counts the hits that stay, and passes if there are none
   pub hits : hits_of (count_of (runs_written (with_file inputs text))) policy
       ≡ count_by (stays_in policy) (flat_map results_of (runs_written inputs))

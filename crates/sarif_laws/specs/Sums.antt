@@ -1,11 +1,16 @@
 -- A merge whose log and counts are those of two others together.
-use Rattle.std.specs.Prelude.{◌≡◌, ◌↔◌, ℕ, ◌+◌, ◌++◌, Bool}
+use Rattle.std.specs.Prelude.{◌≡◌, ◌↔◌, ℕ, ◌+◌, ◌++◌, ◌||◌, Bool, is_none, is_some}
+use Rattle.std.specs.List.{list_all}
 use Rattle.sarif_model.specs.declared.kinds.Level.{Level}
 use Rattle.sarif_model.specs.declared.kinds.State.{State}
 use Rattle.sarif_options.specs.declared.policy.Policy.{Policy}
 use Rattle.sarif_counts.specs.declared.gate_verdict.Verdict.TheVariants.{Pass}
 use Rattle.sarif_counts.specs.CountOf.{count_of}
 use Rattle.sarif_counts.specs.Hits.{Count, hits_of, verdict_of}
+use Rattle.sarif_entries.specs.declared.condition.ConditionKind.TheVariants as kinds
+use Rattle.sarif_entries.specs.declared.entry.Entry.{Entry}
+use Rattle.sarif_entries.specs.Condition.{text_in}
+use Rattle.sarif_entries.specs.File.{File}
 use Rattle.sarif_inputs.specs.Inputs.{Inputs}
 use Rattle.sarif_merge.specs.MergedLog.{runs_written, without_of, written_inputs}
 use Rattle.sarif_laws.specs.NextMerge.{absent_written}
@@ -21,6 +26,14 @@ hits_in inputs policy = hits_of (counts_in inputs) policy
 -- the merge passes
 abbrev pub Passes : Inputs → Policy → Type 0
 Passes inputs policy = verdict_of (counts_in inputs) policy ≡ Pass
+
+-- the entry names a tool, unless it has no `max`
+abbrev pub names_its_tool : Entry → Bool
+names_its_tool e = is_none e.limit || is_some (text_in kinds.Tool e.conditions)
+
+-- each entry with a `max` names a tool, and so counts only the results of that tool
+abbrev pub is_limited_by_tool : File → Bool
+is_limited_by_tool file = list_all names_its_tool file.entries
 
 -- a merge whose log and counts are those of two others
 pub record IsSumOf (first second both : Inputs) : Type 0 where

@@ -30,7 +30,7 @@ ghost use Rattle.sarif_laws.specs.Lines.{lines_in};
 ghost use Rattle.sarif_laws.specs.NextMerge.{IsNewFileOf};
 ghost use Rattle.sarif_laws.specs.Pruning.{ChangesNoResult};
 ghost use Rattle.sarif_laws.specs.SameBaseline.{HasSameResults, with_baselines};
-ghost use Rattle.sarif_laws.specs.Sums.{IsSumOf};
+ghost use Rattle.sarif_laws.specs.Sums.{IsSumOf, is_limited_by_tool};
 
 /// The gate counts the hits of a merged log: its number of hits is how many results of the runs are hits.
 pub fn the_gate_counts_the_hits()
@@ -51,7 +51,8 @@ pub fn the_new_file_is_read_as_itself()
 /// or without pruning, and an expiry date not before today if there is one. Then the merge of the same inputs with the
 /// new file has no errors. Its hits are exactly those of before that stay, each at its place; so the gate passes if none
 /// stays. Each result that was suppressed is suppressed; each has its level, its state and its suppressions of before,
-/// possibly followed by others; absent results are written as before.
+/// possibly followed by others; absent results are written as before. An entry that is kept matches the same results, also
+/// one with a `max`.
 pub fn accepting_leaves_the_hits_that_stay()
     ensures { (inputs : Inputs) (policy : Policy) (renewal : Renewal) (text : List ℕ)
         → faults_of inputs ≡ [] → renewal_faults (merge_in inputs policy) renewal ≡ []
@@ -61,9 +62,10 @@ pub fn accepting_leaves_the_hits_that_stay()
 
 /// The law of pruning. Let inputs have no errors, and let their new suppression file have none, with pruning and without
 /// accepting. Then the merge of the same inputs with the new file has no errors, and the same runs, counts and verdict.
-/// The entries of the new file are exactly those that pruning keeps, in order. An entry that is unused in it isn't expired,
-/// and names a tool that wasn't heard; or it names none, and an input run failed or there is none. So no entry is unused if
-/// the tool of each was heard.
+/// The entries of the new file are exactly those that pruning keeps, in order, with the numbers of their new positions;
+/// they match the same results, also those with a `max`. An entry that is unused in it isn't expired, and names a tool
+/// that wasn't heard; or it names none, and an input run failed or there is none. So no entry is unused if the tool of
+/// each was heard.
 pub fn pruning_changes_no_run()
     ensures { (inputs : Inputs) (policy : Policy) (renewal : Renewal) (text : List ℕ)
         → faults_of inputs ≡ [] → renewal_faults (merge_in inputs policy) renewal ≡ []
@@ -73,7 +75,7 @@ pub fn pruning_changes_no_run()
 
 /// The bytes that a merge gives as its known log are read without an error, if they are UTF-8, as each string is. Wherever
 /// its runs are read, none has an error, and the records of their results are exactly those of the results that become or
-/// stay known, in order.
+/// stay known, in order, as they are read: without the entries of the suppression file that are used up before them.
 pub fn the_known_log_is_read_again()
     ensures { (inputs : Inputs) (policy : Policy) (knowing : Knowing) → faults_of inputs ≡ []
         → IsUtf8 (remembered (merge_in inputs policy) knowing).text
@@ -121,10 +123,12 @@ pub fn each_unused_entry_has_a_line()
 /// Parts by tool add up: let logs and then others, with baselines and then others, have no errors, and let no tool have
 /// results in both parts. Then the runs of the merged log are those of the two merges, each result with the level, the
 /// state and the suppressions that it has there, and so are the absent results. So each count and the hits are the sums,
-/// and if no hit is allowed, the gate passes exactly if it passes in both.
+/// and if no hit is allowed, the gate passes exactly if it passes in both. Each entry of the suppression file that has a
+/// `max` must name a tool: another one would count the results of both parts.
 pub fn parts_by_tool_add_up()
     ensures { (inputs : Inputs) (logs more baselines others : List (List ℕ))
         → faults_of (with_sources inputs (logs ++ more) (baselines ++ others)) ≡ []
+        → is_limited_by_tool (log.file_given inputs) ≡ true
         → HaveNoToolInCommon
         (current_in (with_sources inputs logs baselines)
         ++ baseline_in (with_sources inputs logs baselines))

@@ -18,8 +18,9 @@ use Rattle.sarif_counts.specs.Gate.{gate_of}
 use Rattle.sarif_counts.specs.Hits.{Count}
 use Rattle.sarif_options.specs.declared.policy.Policy.{Policy}
 use Rattle.sarif_read.proofs.Beside.{member_beside}
-use Rattle.sarif_match.specs.declared.version.MatchingVersion.{MatchingVersion}
+use Rattle.sarif_evidence.specs.declared.version.MatchingVersion.{MatchingVersion}
 use Rattle.sarif_entries.specs.File.{File}
+use Rattle.sarif_suppress.specs.Limited.{limited}
 use Rattle.sarif_suppress.specs.Suppressing.{unused_of}
 use Rattle.sarif_results.specs.Drafts.{Listing}
 use Rattle.sarif_runs.specs.Judging.{records_of, run_values}
@@ -104,9 +105,9 @@ module _ (version : MatchingVersion) (file : File) (current baseline : List Plac
   current_same : arrays (current_runs version file (all_without current) (all_without baseline)) ≡ arrays (current_runs version file current baseline)
   current_same =
       (λ i. arrays
-      (merged_runs (listing_of file) (records_same current i) (states_of version (records_same current i) (records_same baseline i))
+      (merged_runs (listing_of file) (limited file (records_same current i)) (states_of version (records_same current i) (records_same baseline i))
       (values_same current i)))
-      ∙ merged_same (listing_of file) (records_of current) (states_of version (records_of current) (records_of baseline)) (run_values current)
+      ∙ merged_same (listing_of file) (limited file (records_of current)) (states_of version (records_of current) (records_of baseline)) (run_values current)
 
   left_same : arrays (leftover_runs version (all_without current) (all_without baseline)) ≡ arrays (leftover_runs version current baseline)
   left_same =
@@ -171,4 +172,4 @@ pub gate_same : (version : MatchingVersion) (file : File) (current baseline : Li
     → gate_in (merged_by version file (all_without current) (all_without baseline) policy) ≡ gate_in (merged_by version file current baseline policy)
 gate_same version file current baseline policy = λ i.
     Some (gate_of (counts_same version file current baseline i) policy ((ap runs_without_results (values_same current) ∙ lacking_same (run_values current)) i)
-    (unused_of file (records_same current i)))
+    (unused_of file (limited file (records_same current i))))

@@ -5,7 +5,7 @@ ghost use Rattle.sarif_model.specs.Run.{results_array};
 ghost use Rattle.sarif_options.specs.declared.policy.Policy.{Policy};
 ghost use Rattle.sarif_counts.specs.CountOf.{count_of};
 ghost use Rattle.sarif_counts.specs.Hits.{verdict_of};
-ghost use Rattle.sarif_match.specs.declared.version.MatchingVersion.{MatchingVersion};
+ghost use Rattle.sarif_evidence.specs.declared.version.MatchingVersion.{MatchingVersion};
 ghost use Rattle.sarif_match.specs.Partners.{partners_in};
 ghost use Rattle.sarif_entries.specs.File.{File};
 ghost use Rattle.sarif_suppress.specs.Suppressing.{is_suppressed, matching_numbers};
@@ -16,7 +16,7 @@ ghost use Rattle.sarif_runs.specs.Placed.{Placed};
 ghost use Rattle.sarif_inputs.specs.Internal.Allowing.{allowing};
 ghost use Rattle.sarif_inputs.specs.Faults.{faults_of};
 ghost use Rattle.sarif_inputs.specs.Inputs.{Inputs};
-ghost use Rattle.sarif_log.specs.LogBy.{merged_by, runs_by, states_of, taken_of};
+ghost use Rattle.sarif_log.specs.LogBy.{limited_records, merged_by, runs_by, states_of, taken_of};
 ghost use Rattle.sarif_merge.specs.Life.{merge_in};
 ghost use Rattle.sarif_merge.specs.MergedLog.{merged_log, output_text};
 ghost use Rattle.sarif_laws_external.specs.Fileless.{AreFileless, all_without, gate_in};
@@ -55,11 +55,11 @@ pub fn external_files_change_no_result()
         → taken_of version (records_of (all_without current)) (records_of (all_without baseline))
         ≡ taken_of version (records_of current) (records_of baseline) }
     ensures matching { (file : File) (runs : List Placed)
-        → map (matching_numbers file) (records_of (all_without runs))
-        ≡ map (matching_numbers file) (records_of runs) }
+        → map (matching_numbers file) (limited_records file (all_without runs))
+        ≡ map (matching_numbers file) (limited_records file runs) }
     ensures suppressed { (file : File) (runs : List Placed)
-        → map (is_suppressed file) (records_of (all_without runs))
-        ≡ map (is_suppressed file) (records_of runs) }
+        → map (is_suppressed file) (limited_records file (all_without runs))
+        ≡ map (is_suppressed file) (limited_records file runs) }
     ensures results { (version : MatchingVersion) (file : File)
         (current baseline : List Placed)
         → map results_array (runs_by version file (all_without current) (all_without baseline))

@@ -9,8 +9,9 @@ use Rattle.sarif_model.specs.Run.{results_total}
 use Rattle.sarif_entries.specs.File.{File}
 use Rattle.sarif_entries.specs.Given.{file_or_none}
 use Rattle.sarif_copies.specs.Copies.{copies_of}
+use Rattle.sarif_suppress.specs.Limited.{limited}
 use Rattle.sarif_counts.specs.CountOf.{count_of}
-use Rattle.sarif_match.specs.declared.version.MatchingVersion.{MatchingVersion}
+use Rattle.sarif_evidence.specs.declared.version.MatchingVersion.{MatchingVersion}
 use Rattle.sarif_read.specs.Unmarked.{unmarked}
 use Rattle.sarif_runs.specs.Judging.{faults_of_runs, records_of, run_faults, run_values, skips}
 use Rattle.sarif_runs.specs.Placed.{Placed}
@@ -25,7 +26,7 @@ use Rattle.sarif_log.specs.LogBy.{current_runs, leftover_runs, listing_of, state
 use Rattle.sarif_log.specs.Copies.{places_from}
 use Rattle.sarif_log.proofs.Sides.{records_present, taken_long}
 use Rattle.sarif_prepare.specs.By.{copies_if, runs_counted_if, written_if}
-use Rattle.sarif_prepare.specs.Once.{copies_written, current_once, findings_only, leftover_once, marks_of_absent, marks_of_runs, states_once, taken_once}
+use Rattle.sarif_prepare.specs.Once.{copies_written, current_once, findings_only, leftover_once, limited_once, marks_of_absent, marks_of_runs, states_once, taken_once}
 use Rattle.sarif_inputs.specs.Faults.{faults_of, file_faults, number_faults}
 use Rattle.sarif_inputs.specs.Inputs.{Inputs, all_runs, all_sources, baseline_runs, baseline_sources, input_runs, log_sources}
 use Rattle.sarif_inputs.specs.SourceFaults.{source_faults}
@@ -57,7 +58,7 @@ module _ (v : MatchingVersion) (file : File) (now before : List Placed)
   each_counted =
       let ts = taken_of v cs bs in
       let written = total_joined (current_runs v file now before) (leftover_runs v now before) in
-      let here = merged_long (listing_of file) cs (states_of v cs bs) (run_values now) are_now in
+      let here = merged_long (listing_of file) (limited file cs) (states_of v cs bs) (run_values now) are_now in
       let left = absent_long bs ts (run_values before) are_before (records_present before sound_before baselines) (taken_long v cs bs) in
       let counted = counted_all v file now before are_now are_before sound_now sound_before logs baselines in
       omega (arith, written, here, left, counted, records_now)
@@ -73,7 +74,7 @@ module _ (v : MatchingVersion) (file : File) (now before : List Placed)
   written_all : results_total (written_if true v file now before) ≡ length cs + unset_in taken
   written_all =
       let written = total_joined (current_once v file now before) (leftover_once v now before) in
-      let here = merged_long (listing_of file) cs (states_once v cs bs) (run_values now) are_now in
+      let here = merged_long (listing_of file) (limited_once file cs) (states_once v cs bs) (run_values now) are_now in
       let left = absent_long bs taken (run_values before) are_before (records_present before sound_before baselines) taken_all in
       omega (arith, written, here, left, records_now)
 

@@ -14,9 +14,10 @@ use Rattle.sarif_model.specs.Members.{elements}
 use Rattle.sarif_model.specs.Run.{elements_or_none, present, results_of, results_total}
 use Rattle.sarif_model.proofs.Elements.{items_back}
 use Rattle.sarif_entries.specs.File.{File}
+use Rattle.sarif_suppress.specs.Limited.{limited}
 use Rattle.sarif_counts.specs.CountOf.{count_of}
 use Rattle.sarif_counts.proofs.CountAppend.{count_of-append}
-use Rattle.sarif_match.specs.declared.version.MatchingVersion.{MatchingVersion}
+use Rattle.sarif_evidence.specs.declared.version.MatchingVersion.{MatchingVersion}
 use Rattle.sarif_match.specs.Partners.{partners_in}
 use Rattle.sarif_runs.specs.Judging.{faults_of_runs, records_of, run_values, skips}
 use Rattle.sarif_runs.specs.Placed.{Placed}
@@ -25,6 +26,7 @@ use Rattle.sarif_results.proofs.JudgedCounts.{records_of_logs}
 use Rattle.sarif_log.specs.Internal.Texts.{present_results, tallied, unless_taken}
 use Rattle.sarif_log.specs.LogBy.{current_runs, leftover_runs, listing_of, runs_by, states_of, taken_of}
 use Rattle.sarif_log.specs.MergedRuns.{absent_runs, annotated_items, bare, if_any, merged_run, merged_runs, own_results, unmatched, with_results, written_all}
+use Rattle.sarif_log.proofs.Limits.{limited_long}
 use Rattle.sarif_log.proofs.RunCounts.{left_count, runs_count}
 use Rattle.sarif_log.proofs.RunResults.{still_out, taken_out}
 use Rattle.sarif_log.proofs.Sides.{drafts_long, records_present, results_long, states_long, taken_long}
@@ -143,14 +145,16 @@ module _ (v : MatchingVersion) (file : File) (now before : List Placed)
   counted_now =
       let runs = run_values now in
       let ss = states_of v cs bs in
-      let ds = drafts_by (listing_of file) (applied_of file) cs (flat_map results_of runs) in
-      let records : length cs ≡ results_total runs = records_of_logs now sound_now logs in
-      let states : length ss ≡ length cs = states_long v bs (partners_in v cs bs) 0 cs in
-      let drafts : length ds ≡ length cs =
-      drafts_long (listing_of file) (applied_of file) cs (flat_map results_of runs) (records ∙ sym (results_long runs)) in
+      let rs = limited file cs in
+      let ds = drafts_by (listing_of file) (applied_of file) rs (flat_map results_of runs) in
+      let long : length rs ≡ length cs = limited_long file cs in
+      let records : length rs ≡ results_total runs = long ∙ records_of_logs now sound_now logs in
+      let states : length ss ≡ length rs = states_long v bs (partners_in v cs bs) 0 cs ∙ sym long in
+      let drafts : length ds ≡ length rs =
+      drafts_long (listing_of file) (applied_of file) rs (flat_map results_of runs) (records ∙ sym (results_long runs)) in
       counted_same (count_of (current_runs v file now before)) (tallied ds (map Some ss))
-      (λ s l b. sym (runs_count (listing_of file) (applied_of file) cs ss runs s l b are_now records states))
-      ∙ all_tallied ds ss (states ∙ sym drafts) ∙ drafts
+      (λ s l b. sym (runs_count (listing_of file) (applied_of file) rs ss runs s l b are_now records states))
+      ∙ all_tallied ds ss (states ∙ sym drafts) ∙ drafts ∙ long
 
   counted_before : results_counted (count_of (leftover_runs v now before)) ≡ unset_in (taken_of v cs bs)
   counted_before =

@@ -1,4 +1,5 @@
 pub mod CopyNumbers
+pub mod Limits
 pub mod LogText
 pub mod PartsCounted
 pub mod ResultCounts

@@ -7,17 +7,15 @@ use Rattle.std.specs.List.{AllByRecursion, count_by, flat_map, range_with_len}
 use Rattle.serde_json.specs.Data.{Data, Items}
 use Rattle.sarif_model.specs.declared.record.Record.{Record}
 use Rattle.sarif_model.specs.Members.{elements}
-use Rattle.sarif_model.specs.Run.{is_absent_result, results_array, results_of, results_total}
-use Rattle.sarif_match.specs.declared.version.MatchingVersion.{MatchingVersion}
+use Rattle.sarif_model.specs.Run.{is_absent_result, results_array, results_of, results_total, present}
+use Rattle.sarif_evidence.specs.declared.version.MatchingVersion.{MatchingVersion}
 use Rattle.sarif_match.specs.Partners.{partners_in, is_taken}
 use Rattle.sarif_suppress.specs.declared.suppressions.Applied.{Applied}
 use Rattle.sarif_runs.specs.Judging.{faults_of_runs, items_of, records_in, records_of, run_faults, skips, run_values}
 use Rattle.sarif_runs.specs.Placed.{Placed}
 use Rattle.sarif_log.specs.declared.run_parts.RunParts.{RunParts}
 use Rattle.sarif_log.specs.Internal.Texts.{counts_in_parts, own_count, present_results, ArePartsOf}
-use Rattle.sarif_results.specs.Drafts.{drafts_by}
-use Rattle.sarif_results.specs.Drafts.{Listing}
-use Rattle.sarif_model.specs.Run.{present}
+use Rattle.sarif_results.specs.Drafts.{drafts_by, Listing}
 use Rattle.sarif_log.proofs.RunTexts.{run_count}
 use Rattle.sarif_log.specs.LogBy.{runs_without_results, states_from, taken_of}
 use Rattle.sarif_results.proofs.JudgedCounts.{no_faults_here, no_faults_left, records_of_baseline}

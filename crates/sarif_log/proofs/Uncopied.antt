@@ -6,9 +6,9 @@ use Rattle.sarif_model.specs.declared.kinds.Level.{Level}
 use Rattle.sarif_model.specs.declared.kinds.State.{State}
 use Rattle.sarif_entries.specs.File.{File}
 use Rattle.sarif_findings.specs.declared.reporting.Reporting.{Reporting}
-use Rattle.sarif_match.specs.declared.version.MatchingVersion.{MatchingVersion}
+use Rattle.sarif_evidence.specs.declared.version.MatchingVersion.{MatchingVersion}
 use Rattle.sarif_options.specs.declared.policy.Policy.{Policy}
-use Rattle.sarif_runs.specs.Judging.{records_of, run_values}
+use Rattle.sarif_runs.specs.Judging.{run_values}
 use Rattle.sarif_runs.specs.Placed.{Placed}
 use Rattle.sarif_suppress.specs.Suppressing.{unused_of}
 use Rattle.sarif_log.specs.Assembled.{IsMergedBy}
@@ -21,7 +21,7 @@ use Rattle.sarif_log.specs.declared.merged_text.Side.{Side}
 use Rattle.sarif_log.specs.Internal.Copied.{places_by, AreFlagsIf}
 use Rattle.sarif_log.specs.Internal.Prepared.{IsPrepared, IsPreparedAs}
 use Rattle.sarif_log.specs.Internal.Written.{AreWritten, AreWrittenWith}
-use Rattle.sarif_log.specs.LogBy.{runs_by, runs_without_results}
+use Rattle.sarif_log.specs.LogBy.{limited_records, runs_by, runs_without_results}
 
 written_all : (copies : Option CopyFlags) (current baseline : Side) (runs : List Data) → copies ≡ None → AreWritten current baseline runs
     → AreWrittenWith copies current baseline runs runs
@@ -34,7 +34,7 @@ no_places (Some flags) current baseline is = cc
 
 pub prepared_all : (v : MatchingVersion) (file : File) (now before : List Placed) (asked : Option Reporting) (prepared : Prepared)
     → IsPrepared v file now before asked prepared
-    → IsPreparedAs (runs_by v file now before) (runs_by v file now before) None (runs_without_results (run_values now)) (unused_of file (records_of now)) asked
+    → IsPreparedAs (runs_by v file now before) (runs_by v file now before) None (runs_without_results (run_values now)) (unused_of file (limited_records file now)) asked
     prepared
 prepared_all v file now before asked prepared h = record {
   written = written_all prepared.copies prepared.current prepared.baseline (runs_by v file now before) h.copies h.written;
@@ -45,7 +45,7 @@ prepared_all v file now before asked prepared h = record {
 }
 
 merged_all : (v : MatchingVersion) (file : File) (now before : List Placed) (policy : Policy) (asked : Option Reporting) (merged : Merged)
-    → IsMergedAs (runs_by v file now before) (runs_by v file now before) None policy (runs_without_results (run_values now)) (unused_of file (records_of now))
+    → IsMergedAs (runs_by v file now before) (runs_by v file now before) None policy (runs_without_results (run_values now)) (unused_of file (limited_records file now))
     asked merged
     → IsMergedBy v file now before policy asked merged
 merged_all v file now before policy asked merged h =
@@ -59,7 +59,7 @@ pub merged_by : (prepared : Prepared) (policy : Policy) (merged : Merged)
     → IsMergedBy v file now before policy asked merged
 merged_by prepared policy merged made = λ v file now before asked h.
     merged_all v file now before policy asked merged
-    (made (runs_by v file now before) (runs_by v file now before) None (runs_without_results (run_values now)) (unused_of file (records_of now)) asked
+    (made (runs_by v file now before) (runs_by v file now before) None (runs_without_results (run_values now)) (unused_of file (limited_records file now)) asked
     (prepared_all v file now before asked prepared h))
 
 -- there is a mark for each result

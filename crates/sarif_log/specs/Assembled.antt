@@ -4,7 +4,7 @@ use Rattle.serde_json.specs.Data.{Data}
 use Rattle.serde_json.specs.Written.{compact_text}
 use Rattle.sarif_model.specs.declared.kinds.Level.{Level}
 use Rattle.sarif_model.specs.declared.kinds.State.{State}
-use Rattle.sarif_match.specs.declared.version.MatchingVersion.{MatchingVersion}
+use Rattle.sarif_evidence.specs.declared.version.MatchingVersion.{MatchingVersion}
 use Rattle.sarif_entries.specs.File.{File}
 use Rattle.sarif_suppress.specs.Suppressing.{unused_of}
 use Rattle.sarif_options.specs.declared.policy.Policy.{Policy}
@@ -12,10 +12,10 @@ use Rattle.sarif_counts.specs.CountOf.{count_of}
 use Rattle.sarif_counts.specs.Counts.{count_at}
 use Rattle.sarif_counts.specs.Hits.{verdict_of}
 use Rattle.sarif_findings.specs.declared.reporting.Reporting.{Reporting}
-use Rattle.sarif_runs.specs.Judging.{records_of, run_values}
+use Rattle.sarif_runs.specs.Judging.{run_values}
 use Rattle.sarif_runs.specs.Placed.{Placed}
 use Rattle.sarif_log.specs.declared.merged.Merged.{Merged}
-use Rattle.sarif_log.specs.LogBy.{log_by, runs_by, runs_without_results}
+use Rattle.sarif_log.specs.LogBy.{limited_records, log_by, runs_by, runs_without_results}
 use Rattle.sarif_log.specs.Told.{told_of}
 
 -- counts, verdict and numbers are those of a log with these runs, which are written
@@ -38,5 +38,5 @@ pub record IsLogOf (runs : List Data) (policy : Policy) (without unused : ℕ)
 pub record IsMergedBy (version : MatchingVersion) (file : File) (current baseline : List Placed)
     (policy : Policy) (asked : Option Reporting) (merged : Merged) : Type 0 where
   pub written : IsLogOf (runs_by version file current baseline) policy
-      (runs_without_results (run_values current)) (unused_of file (records_of current)) merged
+      (runs_without_results (run_values current)) (unused_of file (limited_records file current)) merged
   pub told : merged.findings.items ≡ told_of asked (runs_by version file current baseline)

@@ -5,11 +5,12 @@ use Rattle.serde_json.specs.Data.{Data}
 use Rattle.sarif_model.specs.declared.kinds.State.{State}
 use Rattle.sarif_model.specs.declared.record.Record.{Record}
 use Rattle.sarif_model.specs.Run.{results_array}
-use Rattle.sarif_match.specs.declared.version.MatchingVersion.{MatchingVersion}
-use Rattle.sarif_match.specs.Evidence.{state_in}
+use Rattle.sarif_evidence.specs.declared.version.MatchingVersion.{MatchingVersion}
+use Rattle.sarif_evidence.specs.Evidence.{state_in}
 use Rattle.sarif_match.specs.Partners.{partners_in, is_taken}
 use Rattle.sarif_entries.specs.File.{File}
 use Rattle.sarif_entries.specs.Matching.{is_expired}
+use Rattle.sarif_suppress.specs.Limited.{limited}
 use Rattle.sarif_suppress.specs.Suppressing.{is_unused, unused_of}
 use Rattle.sarif_suppress.specs.Written.{suppressions_of}
 use Rattle.sarif_options.specs.declared.policy.Policy.{Policy}
@@ -46,6 +47,10 @@ taken_of version cs bs =
 
 -- ---- the log
 
+-- the records of all results of runs, each with the entries of the file that are used up before it
+abbrev pub limited_records : File → List Placed → List Record
+limited_records file runs = limited file (records_of runs)
+
 -- the suppressions of a current result: its own, and then what the file's entries add
 abbrev pub listing_of : File → Listing
 listing_of file r own = suppressions_of own file r
@@ -53,7 +58,7 @@ listing_of file r own = suppressions_of own file r
 -- the input runs, each result with its level, its state in a version and its suppressions
 abbrev pub current_runs : MatchingVersion → File → List Placed → List Placed → List Data
 current_runs version file current baseline =
-    merged_runs (listing_of file) (records_of current)
+    merged_runs (listing_of file) (limited_records file current)
     (states_of version (records_of current) (records_of baseline)) (run_values current)
 
 -- the baseline runs with a result that is unmatched in a version, with exactly these results
@@ -83,4 +88,4 @@ log_by runs policy without unused = log_with (gate_of (count_of runs) policy wit
 abbrev pub merged_by : MatchingVersion → File → List Placed → List Placed → Policy → Data
 merged_by version file current baseline policy =
     log_by (runs_by version file current baseline) policy
-    (runs_without_results (run_values current)) (unused_of file (records_of current))
+    (runs_without_results (run_values current)) (unused_of file (limited_records file current))

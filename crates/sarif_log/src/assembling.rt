@@ -1,7 +1,7 @@
 //! Assembling the merged log, while what is no longer needed is released.
 ghost use Rattle.std.specs.Prelude.{◌≡◌, ℕ, List, Ok, Option, IfOk};
 ghost use Rattle.serde_json.specs.Data.{Data};
-ghost use Rattle.sarif_match.specs.declared.version.MatchingVersion.{MatchingVersion};
+ghost use Rattle.sarif_evidence.specs.declared.version.MatchingVersion.{MatchingVersion};
 ghost use Rattle.sarif_entries.specs.File.{File};
 ghost use Rattle.sarif_runs.specs.Placed.{Placed};
 ghost use Rattle.sarif_findings.specs.declared.reporting.Reporting.{Reporting};

@@ -2,7 +2,7 @@
 use Rattle.std.proofs.Common.{◌≡◌, ℕ, ◌≤◌, Bool, List, Option, length, sym, ap, ◌∙◌, subst, arith}
 use Rattle.sarif_model.specs.declared.record.Record.{Record}
 use Rattle.sarif_match.specs.declared.tier.Tier.{Tier}
-use Rattle.sarif_match.specs.declared.version.MatchingVersion.TheVariants.{Three}
+use Rattle.sarif_evidence.specs.declared.version.MatchingVersion.TheVariants.{Three}
 use Rattle.sarif_match.specs.Tiers.{tiers_in}
 use Rattle.sarif_match.specs.Partners.{partners_after, partners_in, seen_from_end, turned}
 use Rattle.sarif_match.specs.Internal.Numbers.{AreMatchedAlike}

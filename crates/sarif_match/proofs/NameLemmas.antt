@@ -7,7 +7,7 @@ use Rattle.std.specs.BTreeSet.{insert_key}
 use Rattle.std.proofs.lemmas.Simd.{map-map}
 use Rattle.indexmap.proofs.ReorderLemmas.{map-reverse}
 use Rattle.sarif_match.specs.declared.tier.Tier.TheVariants.{Fingerprint, FingerprintHere}
-use Rattle.sarif_match.specs.Seen.{filled}
+use Rattle.sarif_evidence.specs.Seen.{filled}
 use Rattle.std.proofs.lemmas.List.{map-append}
 use Rattle.std.proofs.lemmas.List.Elements.{filter-append}
 use Rattle.std.proofs.lemmas.List.Sums.{fold-append}

@@ -1,15 +1,13 @@
 -- Groups of results by name, one fingerprint and one result at a time.
-use Rattle.std.proofs.Common.{◌≡◌, ℕ, ◌+◌, ◌-◌, ◌<◌, ◌≤◌, zero, suc, Bool, true, false, cond, List, [], ◌∷◌, ◌++◌, Option, Some, None, ◌==◌, length, get_or, take, slice_get, bytes_eq, refl, sym, ap, ◌∙◌, arith, eq-eqb, append-nil}
+use Rattle.std.proofs.Common.{◌≡◌, ℕ, ◌+◌, ◌-◌, ◌<◌, ◌≤◌, zero, suc, Bool, true, false, cond, List, [], ◌∷◌, ◌++◌, Option, Some, None, ◌==◌, length, get_or, take, slice_get, bytes_eq, refl, sym, ap, ◌∙◌, arith, eq-eqb, append-nil, Result, Ok, Err, IfOk, ap₂, not, slice_index_or}
 use Rattle.std.proofs.lemmas.Option.{slice_get-map}
 use Rattle.std.proofs.lemmas.Bool.{ne_eqb}
 use Rattle.std.proofs.lemmas.List.{take_more, map-append, length-map, length-take-le}
-use Rattle.std.proofs.Common.{Result, Ok, Err, IfOk}
 use Rattle.std.specs.Borrow.{Bor}
 use Rattle.std.specs.declared.alloc.Global.{Global}
 use Rattle.std.specs.declared.vec.Vec.{Vec}
 use Rattle.std.specs.Option.{option_map, option_map_or}
 use Rattle.sarif_model.specs.declared.record.Record.{Record}
-use Rattle.std.proofs.Common.{ap₂}
 use Rattle.std.specs.Prelude.{option_and_then}
 use Rattle.sarif_match.specs.declared.tier.Tier.{Tier}
 use Rattle.sarif_match.specs.declared.tier.Tier.TheVariants.{Fingerprint, FingerprintHere}
@@ -17,11 +15,10 @@ use Rattle.sarif_match.specs.declared.tier_key.Key.{Key}
 use Rattle.sarif_match.specs.Key.{group_of, key_of, value_of}
 use Rattle.sarif_match.specs.KeyParts.{KeyParts, parts_of, fingerprint_parts, fingerprint_here_parts}
 use Rattle.sarif_match.specs.Internal.Paired.{key_at}
-use Rattle.std.proofs.Common.{not, slice_index_or}
 use Rattle.std.proofs.lemmas.List.Elements.{filter-append}
 use Rattle.sarif_match.specs.Internal.Named.{with_parts, ends_with, keyed_at, put_once, AreNumberedBelow, unmarked}
 use Rattle.sarif_match.specs.Partners.{with_key, keyed_from}
-use Rattle.sarif_match.proofs.ValueLemmas.{same_text}
+use Rattle.sarif_evidence.proofs.EqualLemmas.{same_text}
 use Rattle.sarif_match.proofs.ListLemmas.{slice_get-last}
 
 -- the first, otherwise the second

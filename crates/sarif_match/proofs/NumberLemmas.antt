@@ -14,7 +14,7 @@ use Rattle.sarif_match.specs.contracts.numbers.ValueEq.TheImpl.Laws.{laws-law}
 use Rattle.sarif_match.specs.declared.numbers.Value.{Value}
 use Rattle.sarif_match.specs.declared.numbers.Value.TheVariants.{Text as a_text, Place as a_place, Message as a_message, Members as some_members}
 use Rattle.sarif_match.specs.Internal.Numbers.{AreApart, AreShort, AreShortMembers, Grows, HasNumber, IsNumbered, IsShort, IsShortSnippet, Numbers, lent, members_as, message_as, place_as, same_value}
-use Rattle.sarif_match.proofs.PartsLemmas.{message_refl, pairs_refl, place_refl, text_refl}
+use Rattle.sarif_evidence.proofs.EqualLemmas.{message_refl, pairs_refl, place_refl, text_refl}
 
 none_is : {X : Type 0} (x : X) → None ≡ Some x → ⊥
 none_is x e = cc

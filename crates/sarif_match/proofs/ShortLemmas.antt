@@ -12,14 +12,15 @@ use Rattle.sarif_match.specs.declared.numbers.Value.{Value}
 use Rattle.sarif_match.specs.declared.numbers.Value.TheVariants.{Text as a_text, Place as a_place, Message as a_message, Members as some_members}
 use Rattle.sarif_match.specs.declared.tier.Tier.{Tier}
 use Rattle.sarif_match.specs.declared.tier.Tier.TheVariants.{Guid, Same, SameText, FingerprintHere, Fingerprint, PartialHere, PartialMoved, PlaceText, Place as AtPlace, PlaceLeft}
-use Rattle.sarif_match.specs.Key.{group_of, is_empty, key_of, value_of, without_guid}
-use Rattle.sarif_match.specs.KeyParts.{Group, KeyParts, guid_parts, fingerprint_parts, partial_here_parts, partial_moved_parts, place_parts, region_parts, text_parts, fingerprint_here_parts, place_text_parts, place_left_parts, same_parts, pairs_eq, place_eq, message_eq, group_eq, region_eq}
+use Rattle.sarif_match.specs.Key.{group_of, key_of, value_of, without_guid}
+use Rattle.sarif_evidence.specs.EqualParts.{is_empty, pairs_eq, place_eq, message_eq, region_eq}
+use Rattle.sarif_match.specs.KeyParts.{Group, KeyParts, guid_parts, fingerprint_parts, partial_here_parts, partial_moved_parts, place_parts, region_parts, text_parts, fingerprint_here_parts, place_text_parts, place_left_parts, same_parts, group_eq}
 use Rattle.sarif_match.specs.Pairing.{places, pairs_from, with_pair}
 use Rattle.sarif_match.specs.Partners.{after_tier, free, has_partner, is_taken, keyed_from, left, pairs_at, put_all, with_key}
 use Rattle.sarif_match.specs.Internal.Numbers.{AreApart, AreMatchedAlike, AreShort, AreShortMembers, IsNumbered, IsShort, IsShortSnippet, Numbers, lent, members_as, message_as, place_as, same_value}
 use Rattle.sarif_match.proofs.NumberLemmas.{shorts_counted}
-use Rattle.sarif_match.proofs.PartsLemmas.{message_same, pairs_same, parts_refl, parts_same, place_same, region_same}
-use Rattle.sarif_match.proofs.ValueLemmas.{same_text}
+use Rattle.sarif_evidence.proofs.EqualLemmas.{message_same, pairs_same, place_same, region_same, same_text}
+use Rattle.sarif_match.proofs.PartsLemmas.{parts_refl, parts_same}
 
 both_true : (a b : Bool) → (a ≡ true → b ≡ true) → (b ≡ true → a ≡ true) → a ≡ b
 both_true true true there back = refl
@@ -256,7 +257,7 @@ module _ {S : Type 0} (numbers : Numbers S) where
   snippet_is None short is = (is, tt)
   snippet_is (Some text) short is = (made (a_text (lent text)) Some short is, (is.0, is.1))
 
-  -- the short record of r; kind, level and `held` are those of s
+  -- the short record of r; kind, level, `held` and `spent` are those of s
   abbrev shortened : Record → Record → Record
   shortened r s = record {
     tool = short_text numbers r.tool;
@@ -271,6 +272,7 @@ module _ {S : Type 0} (numbers : Numbers S) where
     held = s.held;
     region = r.region;
     snippet = option_map (short_text numbers) r.snippet;
+    spent = s.spent;
   }
 
   shortened_is : (r s : Record) → IsShort numbers r s → s ≡ shortened r s
@@ -294,6 +296,7 @@ module _ {S : Type 0} (numbers : Numbers S) where
         held = s.held;
         region = is.region i;
         snippet = snippet i;
+        spent = s.spent;
       }
 
   record KnownRecord (r : Record) : Type 0 where

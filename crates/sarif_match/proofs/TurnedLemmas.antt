@@ -8,7 +8,7 @@ use Rattle.std.proofs.lemmas.List.Folds.{list_any-append}
 use Rattle.std.proofs.Math.ListN.{get_or-eq_default}
 use Rattle.sarif_model.specs.declared.record.Record.{Record}
 use Rattle.sarif_match.specs.declared.tier.Tier.{Tier}
-use Rattle.sarif_match.specs.Seen.{seen}
+use Rattle.sarif_evidence.specs.Seen.{seen}
 use Rattle.sarif_match.specs.Partners.{from_end, is_taken, partners_after, seen_from_end, turned}
 use Rattle.sarif_match.specs.Internal.Turned.{AreBelow}
 use Rattle.sarif_match.proofs.LawLemmas.{partner_below}

@@ -1,10 +1,5 @@
 use Rattle.std.proofs.Common.{◌≡◌, ℕ, ◌<◌, suc, Bool, true, List, ◌∷◌, Some, cond, length, get_or, drop, bytes_eq, sym, ap, ◌∙◌, subst, drop-cons}
-use Rattle.std.proofs.lemmas.Slice.Eq.{bytes_eq-Decides}
 use Rattle.sarif_match.specs.Key.{value_of}
-
--- equal strings are the same
-pub same_text : (a b : List ℕ) → bytes_eq a b ≡ true → a ≡ b
-same_text a b e = (bytes_eq-Decides a b).0 e
 
 -- the value is at the position that the look-up reached
 pub value_of-here : (name : List ℕ) (pairs : List (List ℕ × List ℕ)) (i : ℕ) (p : List ℕ × List ℕ) → p ≡ get_or pairs i p → i < length pairs

@@ -1,17 +1,14 @@
 -- The key of a result at each tier.
-use Rattle.std.specs.Prelude.{ℕ, List, Bool, Option, Some, None, option_map, if◌then◌else◌, is_some, ◌&&◌, not, bytes_eq, length, ◌==◌}
+use Rattle.std.specs.Prelude.{ℕ, List, Bool, Option, Some, None, option_map, if◌then◌else◌, is_some, ◌&&◌, not, bytes_eq}
 use Rattle.std.specs.Map.{lookup}
 use Rattle.sarif_model.specs.declared.record.Record.{Record}
 use Rattle.sarif_match.specs.declared.tier.Tier.{Tier}
 use Rattle.sarif_match.specs.declared.tier.Tier.TheVariants.{Guid, Same, SameText, FingerprintHere, Fingerprint, PartialHere, PartialMoved, PlaceText, Place, PlaceLeft}
-use Rattle.sarif_match.specs.declared.version.MatchingVersion.{MatchingVersion}
-use Rattle.sarif_match.specs.declared.version.MatchingVersion.TheVariants.{Two, Three}
+use Rattle.sarif_evidence.specs.declared.version.MatchingVersion.{MatchingVersion}
+use Rattle.sarif_evidence.specs.declared.version.MatchingVersion.TheVariants.{Two, Three}
 use Rattle.sarif_match.specs.KeyParts.{Group, KeyParts, guid_parts, fingerprint_parts, partial_here_parts, partial_moved_parts, place_parts, region_parts, text_parts, fingerprint_here_parts, place_text_parts, place_left_parts}
-use Rattle.sarif_match.specs.Seen.{seen}
-
--- no members
-abbrev pub is_empty : List (List ℕ × List ℕ) → Bool
-is_empty pairs = length pairs == 0
+use Rattle.sarif_evidence.specs.EqualParts.{is_empty}
+use Rattle.sarif_evidence.specs.Seen.{seen}
 
 -- the value of the fingerprint with this name (SARIF 2.1.0, "fingerprints property")
 abbrev pub value_of : List ℕ → List (List ℕ × List ℕ) → Option (List ℕ)

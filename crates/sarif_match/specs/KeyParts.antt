@@ -1,9 +1,9 @@
 use Rattle.std.specs.Prelude.{ℕ, List, Bool, false, Option, ◌&&◌, ◌==◌, bytes_eq}
 use Rattle.std.specs.Option.{option_eq}
-use Rattle.std.specs.Cmp.Lexicographic.{pointwise}
 use Rattle.sarif_model.specs.declared.message.Message.{Message}
 use Rattle.sarif_model.specs.declared.place.Place.{Place}
 use Rattle.sarif_model.specs.declared.region.Region.{Region}
+use Rattle.sarif_evidence.specs.EqualParts.{message_eq, pairs_eq, place_eq, region_eq}
 use Rattle.sarif_match.specs.declared.group.Group as lent
 use Rattle.sarif_match.specs.declared.tier_key.Key as borrowed
 use Rattle.sarif_match.specs.declared.tier_key.Key.TheVariants.{Guid, Same, SameText, FingerprintHere, Fingerprint, PartialHere, PartialMoved, PlaceText, Place as AtPlace, PlaceLeft}
@@ -54,28 +54,10 @@ parts_of (FingerprintHere group member) =
 parts_of (PlaceText group snippet) = place_text_parts (borrowed_group group) snippet.now
 parts_of (PlaceLeft group) = place_left_parts (borrowed_group group)
 
-abbrev pub pairs_eq : List (List ℕ × List ℕ) → List (List ℕ × List ℕ) → Bool
-pairs_eq = pointwise (λ p q. bytes_eq p.0 q.0 && bytes_eq p.1 q.1)
-
-abbrev pub place_eq : Place → Place → Bool
-place_eq a b = option_eq bytes_eq a.uri b.uri && option_eq bytes_eq a.base b.base
-
-abbrev pub message_eq : Message → Message → Bool
-message_eq a b =
-    option_eq bytes_eq a.text b.text
-    && (option_eq bytes_eq a.id b.id && pointwise bytes_eq a.args b.args)
-
 abbrev pub group_eq : Group → Group → Bool
 group_eq a b =
     bytes_eq a.tool b.tool
     && (bytes_eq a.rule_id b.rule_id && (place_eq a.place b.place && message_eq a.message b.message))
-
-abbrev pub region_eq : Region → Region → Bool
-region_eq a b =
-    (a.start_line == b.start_line)
-    && (option_eq (λ m n. m == n) a.start_column b.start_column
-    && (option_eq (λ m n. m == n) a.end_line b.end_line
-    && option_eq (λ m n. m == n) a.end_column b.end_column))
 
 -- whether two keys are of one tier and all their parts are equal
 abbrev pub same_parts : KeyParts → KeyParts → Bool

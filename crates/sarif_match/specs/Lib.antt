@@ -1,9 +1,6 @@
-pub mod Evidence
 pub mod Internal
 pub mod Key
 pub mod KeyParts
 pub mod Pairing
 pub mod Partners
-pub mod Seen
-pub mod State
 pub mod Tiers

@@ -4,12 +4,12 @@ use Rattle.std.specs.List.{list_any}
 use Rattle.std.specs.Option.{option_map_or}
 use Rattle.sarif_model.specs.declared.record.Record.{Record}
 use Rattle.sarif_match.specs.declared.tier.Tier.{Tier}
-use Rattle.sarif_match.specs.declared.version.MatchingVersion.{MatchingVersion}
-use Rattle.sarif_match.specs.declared.version.MatchingVersion.TheVariants.{Two, Three}
+use Rattle.sarif_evidence.specs.declared.version.MatchingVersion.{MatchingVersion}
+use Rattle.sarif_evidence.specs.declared.version.MatchingVersion.TheVariants.{Two, Three}
 use Rattle.sarif_match.specs.Key.{key_of}
 use Rattle.sarif_match.specs.KeyParts.{KeyParts, same_parts}
 use Rattle.sarif_match.specs.Pairing.{pairs_from}
-use Rattle.sarif_match.specs.Seen.{seen}
+use Rattle.sarif_evidence.specs.Seen.{seen}
 use Rattle.sarif_match.specs.Tiers.{tiers_in, tiers_of}
 
 -- the results, with one more at the front where it has a key

@@ -1,14 +1,14 @@
 //! The tiers of version 3, in order.
 ghost use Rattle.std.specs.Prelude.{◌≡◌, [], ◌∷◌, ◌++◌, IfOk, OnOk, map, reverse};
 ghost use Rattle.std.specs.BTreeSet.{keys};
-ghost use Rattle.sarif_match.specs.Seen.{filled, seen};
+ghost use Rattle.sarif_evidence.specs.Seen.{filled, seen};
 ghost use Rattle.sarif_match.specs.Tiers.{names_of, with_names, tiers_in};
 ghost use Rattle.sarif_match.specs.declared.tier.Tier.TheVariants.{FingerprintHere};
-ghost use Rattle.sarif_match.specs.declared.version.MatchingVersion.TheVariants.{Three};
+ghost use Rattle.sarif_evidence.specs.declared.version.MatchingVersion.TheVariants.{Three};
 
-use crate::seeing::is_filled;
 use crate::tier::Tier;
 use crate::tier_list::{falling, push_fingerprints};
+use sarif_evidence::is_filled;
 use sarif_model::{Record, Text};
 use std::alloc::{AllocError, Global};
 use std::collections::BTreeSet;

@@ -1,7 +1,8 @@
 //! The key of a result at each tier.
 ghost use Rattle.std.specs.Prelude.{◌≡◌, not};
 ghost use Rattle.std.specs.Option.{option_map};
-ghost use Rattle.sarif_match.specs.Key.{key_of, is_empty, is_unnamed};
+ghost use Rattle.sarif_match.specs.Key.{key_of, is_unnamed};
+ghost use Rattle.sarif_evidence.specs.EqualParts.{is_empty};
 ghost use Rattle.sarif_match.specs.KeyParts.{parts_of};
 ghost use Rattle.sarif_match.specs.declared.tier.Tier.TheVariants.{Guid, Fingerprint};
 

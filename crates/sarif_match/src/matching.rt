@@ -1,9 +1,9 @@
 //! All tiers: which baseline result each current result is paired with.
 ghost use Rattle.std.specs.Prelude.{◌≡◌, ◌≤◌, List, Option, ℕ, None, false, length, reverse, slice_index_or};
 ghost use Rattle.std.specs.Prelude.{IfOk, OnOk};
-ghost use Rattle.sarif_match.specs.Partners.{is_taken, after_tier, partners_after, partners_of};
-ghost use Rattle.sarif_match.specs.Partners.{from_end, partners_in, turned};
-ghost use Rattle.sarif_match.specs.declared.version.MatchingVersion.TheVariants.{Three};
+ghost use Rattle.sarif_match.specs.Partners.{is_taken, after_tier, partners_after, partners_of, from_end};
+ghost use Rattle.sarif_match.specs.Partners.{partners_in, turned};
+ghost use Rattle.sarif_evidence.specs.declared.version.MatchingVersion.TheVariants.{Three};
 ghost use Rattle.sarif_match.specs.Internal.Turned.{AreBelow};
 ghost use Rattle.std.specs.Option.{option_map};
 ghost use Rattle.sarif_match.specs.Internal.Progress.{IsSound};
@@ -17,7 +17,7 @@ use crate::shortening::short_from_end;
 use crate::side::IndexedSide;
 use crate::tier::Tier;
 use crate::tier_list::tiers_of;
-use crate::version::MatchingVersion;
+use sarif_evidence::MatchingVersion;
 use sarif_model::Record;
 use std::alloc::{AllocError, Global};
 use std::hash::BuildHasher;

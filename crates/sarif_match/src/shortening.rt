@@ -97,6 +97,7 @@ fn short_record<'a, S: BuildHasher + Copy>(
         held: Sequence::new(alloc),
         region: finding.region,
         snippet,
+        spent: Sequence::new(alloc),
     })
 }
 

@@ -6,7 +6,7 @@ ghost use Rattle.sarif_match.specs.declared.tier.Tier.TheVariants.{Fingerprint};
 
 use crate::finer_tiers::finer_tiers;
 use crate::tier::Tier;
-use crate::version::MatchingVersion;
+use sarif_evidence::MatchingVersion;
 use sarif_model::{Record, Text};
 use std::alloc::{AllocError, Global};
 use std::collections::BTreeSet;

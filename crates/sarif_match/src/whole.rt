@@ -6,14 +6,13 @@ ghost use Rattle.sarif_model.specs.Limits.{most_results};
 ghost use Rattle.sarif_match.specs.Key.{key_of};
 ghost use Rattle.sarif_match.specs.KeyParts.{parts_of};
 ghost use Rattle.sarif_match.specs.Partners.{partners_in};
-ghost use Rattle.sarif_match.specs.Seen.{seen};
+ghost use Rattle.sarif_evidence.specs.Seen.{seen};
 
 use crate::keys::key_at;
 use crate::matching::{Matching, match_all_in};
-use crate::seeing::seen;
 use crate::tier::Tier;
 use crate::tier_key::Key;
-use crate::version::MatchingVersion;
+use sarif_evidence::{MatchingVersion, seen};
 use sarif_model::Record;
 use std::alloc::{AllocError, Global};
 use std::hash::{BuildHasherDefault, FoldHasher};

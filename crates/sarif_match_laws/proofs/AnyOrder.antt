@@ -10,25 +10,25 @@ use Rattle.sarif_model.specs.declared.kinds.State.TheVariants.{Unchanged}
 use Rattle.sarif_model.specs.declared.record.Record.{Record}
 use Rattle.sarif_match.specs.declared.tier.Tier.{Tier}
 use Rattle.sarif_match.specs.declared.tier.Tier.TheVariants.{Guid, Same, SameText, FingerprintHere, Fingerprint, PartialHere, PartialMoved, PlaceText, Place, PlaceLeft}
-use Rattle.sarif_match.specs.declared.version.MatchingVersion.TheVariants.{Three}
-use Rattle.sarif_match.specs.Evidence.{has_evidence, state_in}
+use Rattle.sarif_evidence.specs.declared.version.MatchingVersion.TheVariants.{Three}
+use Rattle.sarif_evidence.specs.Evidence.{has_evidence, state_in}
 use Rattle.sarif_match.specs.Key.{group_of, key_of, value_of}
 use Rattle.sarif_match.specs.KeyParts.{Group, KeyParts, fingerprint_here_parts, region_parts, text_parts}
 use Rattle.sarif_match.specs.Partners.{from_end, seen_from_end}
-use Rattle.sarif_match.specs.Seen.{seen}
+use Rattle.sarif_evidence.specs.Seen.{seen}
 use Rattle.sarif_match.specs.Tiers.{falling_names, has_name, names_of, rising_names}
-use Rattle.sarif_match.specs.Internal.Leaving.{AreReordered}
-use Rattle.sarif_match.specs.Internal.SameFinding.{AreMatchedAt, match_in}
-use Rattle.sarif_match.proofs.AsMany.{HasGroup, group_in, group_place, group_same_text, group_same_tier}
-use Rattle.sarif_match.proofs.BlindSpot.{keys_at, tier_of}
-use Rattle.sarif_match.proofs.EvidenceLemmas.{enough_is_unchanged}
-use Rattle.sarif_match.proofs.NoneLeft.{there_within}
-use Rattle.sarif_match.proofs.OrderLemmas.{each_matched_in}
-use Rattle.sarif_match.proofs.PairEvidence.{AreUnlike, evidence_at, guarded, mapped}
-use Rattle.sarif_match.proofs.PartsLemmas.{text_refl}
+use Rattle.sarif_match_laws.specs.Leaving.{AreReordered}
+use Rattle.sarif_match_laws.specs.SameFinding.{AreMatchedAt, match_in}
+use Rattle.sarif_match_laws.proofs.AsMany.{HasGroup, group_in, group_place, group_same_text, group_same_tier}
+use Rattle.sarif_match_laws.proofs.BlindSpot.{keys_at, tier_of}
+use Rattle.sarif_match_laws.proofs.EvidenceLemmas.{enough_is_unchanged}
+use Rattle.sarif_match_laws.proofs.NoneLeft.{there_within}
+use Rattle.sarif_match_laws.proofs.OrderLemmas.{each_matched_in}
+use Rattle.sarif_match_laws.proofs.PairEvidence.{AreUnlike, evidence_at, guarded, mapped}
+use Rattle.sarif_evidence.proofs.EqualLemmas.{text_refl}
 use Rattle.sarif_match.proofs.SortedLemmas.{has_names}
 use Rattle.sarif_match.proofs.SplitLemmas.{none_is_no_some}
-use Rattle.sarif_match.proofs.VersionLaws.{seen_at}
+use Rattle.sarif_match_laws.proofs.VersionLaws.{seen_at}
 use Rattle.sarif_match_laws.specs.AnyOrder.{AreWithoutPartials, HaveOneLevel}
 use Rattle.sarif_match_laws.proofs.Done.{done_after, had, seen_reordered}
 use Rattle.sarif_match_laws.proofs.FirstTier.{Settles, first_tier, is_first, settled}

@@ -7,10 +7,10 @@ use Rattle.std.proofs.lemmas.List.Concat.{flat_map-append}
 use Rattle.std.proofs.lemmas.List.Folds.{list_any-append}
 use Rattle.std.proofs.lemmas.Slice.Eq.{bytes_eq-Decides}
 use Rattle.sarif_model.specs.declared.record.Record.{Record}
-use Rattle.sarif_match.specs.declared.version.MatchingVersion.{MatchingVersion}
-use Rattle.sarif_match.specs.declared.version.MatchingVersion.TheVariants.{Two, Three}
+use Rattle.sarif_evidence.specs.declared.version.MatchingVersion.{MatchingVersion}
+use Rattle.sarif_evidence.specs.declared.version.MatchingVersion.TheVariants.{Two, Three}
 use Rattle.sarif_match.specs.Partners.{from_end, is_taken, partners_after, partners_in, seen_from_end, turned}
-use Rattle.sarif_match.specs.Seen.{seen}
+use Rattle.sarif_evidence.specs.Seen.{seen}
 use Rattle.sarif_match.specs.Tiers.{falling_names, finer_tiers, has_name, names_of, tiers_in, tiers_of}
 use Rattle.sarif_match.specs.Internal.Turned.{AreBelow}
 use Rattle.sarif_match.proofs.LawLemmas.{after_counts}

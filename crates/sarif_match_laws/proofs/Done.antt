@@ -12,14 +12,14 @@ use Rattle.sarif_match.specs.declared.tier.Tier.{Tier}
 use Rattle.sarif_match.specs.Key.{key_of}
 use Rattle.sarif_match.specs.KeyParts.{KeyParts, same_parts}
 use Rattle.sarif_match.specs.Partners.{after_tier, has_partner, is_taken, pairs_at, partners_after, seen_from_end}
-use Rattle.sarif_match.specs.Seen.{seen}
-use Rattle.sarif_match.specs.Internal.Leaving.{AreReordered, count_left}
+use Rattle.sarif_evidence.specs.Seen.{seen}
+use Rattle.sarif_match_laws.specs.Leaving.{AreReordered, count_left}
 use Rattle.sarif_match.specs.Internal.Paired.{key_at}
-use Rattle.sarif_match.proofs.AsMany.{count_from_end, found_at}
-use Rattle.sarif_match.proofs.CountLemmas.{PairAlike, count_some, counted_alike, fresh_pairs}
+use Rattle.sarif_match_laws.proofs.AsMany.{count_from_end, found_at}
+use Rattle.sarif_match_laws.proofs.CountLemmas.{PairAlike, count_some, counted_alike, fresh_pairs}
 use Rattle.sarif_match.proofs.FitsLemmas.{Fits-pairs_at}
 use Rattle.sarif_match.proofs.LawLemmas.{after_counts, is_taken-by, paired_once, tier-adds, tier-tells}
-use Rattle.sarif_match.proofs.NoneLeft.{by_someone, no_common_key}
+use Rattle.sarif_match_laws.proofs.NoneLeft.{by_someone, no_common_key}
 use Rattle.sarif_match.proofs.PairedLemmas.{paired-of}
 use Rattle.sarif_match.proofs.PartsLemmas.{parts_refl, parts_same}
 use Rattle.sarif_match.proofs.PutLemmas.{nobody_taken}

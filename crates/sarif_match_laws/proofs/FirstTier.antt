@@ -7,12 +7,12 @@ use Rattle.sarif_model.specs.declared.record.Record.{Record}
 use Rattle.sarif_model.specs.declared.region.Region.{Region}
 use Rattle.sarif_match.specs.declared.tier.Tier.{Tier}
 use Rattle.sarif_match.specs.declared.tier.Tier.TheVariants.{Guid, Same, SameText, FingerprintHere, Fingerprint, PartialHere, PartialMoved, PlaceText, Place, PlaceLeft}
-use Rattle.sarif_match.specs.Key.{group_of, is_empty, key_of, value_of}
+use Rattle.sarif_match.specs.Key.{group_of, key_of, value_of}
+use Rattle.sarif_evidence.specs.EqualParts.{is_empty}
 use Rattle.sarif_match.specs.KeyParts.{KeyParts, guid_parts, fingerprint_here_parts, fingerprint_parts, partial_here_parts, partial_moved_parts, place_parts, place_text_parts, region_parts, text_parts}
 use Rattle.sarif_match.specs.Tiers.{finer_tiers}
 use Rattle.sarif_match.proofs.SplitLemmas.{none_is_no_some}
-use Rattle.sarif_match.proofs.PartsLemmas.{text_refl}
-use Rattle.sarif_match.proofs.ValueLemmas.{same_text}
+use Rattle.sarif_evidence.proofs.EqualLemmas.{text_refl, same_text}
 use Rattle.sarif_match_laws.proofs.Done.{had}
 
 abbrev pub first_tier : List Tier → Record → Option Tier

@@ -6,7 +6,8 @@ use Rattle.sarif_model.specs.declared.record.Record.{Record}
 use Rattle.sarif_model.specs.declared.region.Region.{Region}
 use Rattle.sarif_match.specs.declared.tier.Tier.{Tier}
 use Rattle.sarif_match.specs.declared.tier.Tier.TheVariants.{Guid, Same, SameText, FingerprintHere, Fingerprint, PartialHere, PartialMoved, PlaceText, Place, PlaceLeft}
-use Rattle.sarif_match.specs.Key.{group_of, is_empty, is_unnamed, key_of, value_of}
+use Rattle.sarif_match.specs.Key.{group_of, is_unnamed, key_of, value_of}
+use Rattle.sarif_evidence.specs.EqualParts.{is_empty}
 use Rattle.sarif_match.specs.KeyParts.{KeyParts, guid_parts, fingerprint_here_parts, fingerprint_parts, partial_here_parts, partial_moved_parts, place_left_parts, place_parts, place_text_parts, region_parts, text_parts}
 
 -- ---- the tool of a key

@@ -10,26 +10,26 @@ use Rattle.sarif_model.specs.declared.kinds.State.TheVariants.{Unchanged, Update
 use Rattle.sarif_model.specs.declared.record.Record.{Record}
 use Rattle.sarif_match.specs.declared.tier.Tier.{Tier}
 use Rattle.sarif_match.specs.declared.tier.Tier.TheVariants.{Guid, Same, SameText, FingerprintHere, Fingerprint, PartialHere, PartialMoved, PlaceText, Place, PlaceLeft}
-use Rattle.sarif_match.specs.declared.version.MatchingVersion.TheVariants.{Three}
-use Rattle.sarif_match.specs.Evidence.{has_evidence, state_in}
+use Rattle.sarif_evidence.specs.declared.version.MatchingVersion.TheVariants.{Three}
+use Rattle.sarif_evidence.specs.Evidence.{has_evidence, state_in}
 use Rattle.sarif_match.specs.Key.{group_of, key_of, value_of}
 use Rattle.sarif_match.specs.KeyParts.{Group, KeyParts, fingerprint_parts, place_text_parts}
 use Rattle.sarif_match.specs.Partners.{from_end, is_taken, partners_after, partners_in, seen_from_end}
-use Rattle.sarif_match.specs.Seen.{seen}
-use Rattle.sarif_match.specs.State.{is_unchanged}
+use Rattle.sarif_evidence.specs.Seen.{seen}
+use Rattle.sarif_evidence.specs.State.{is_unchanged}
 use Rattle.sarif_match.specs.Tiers.{falling_names, has_name, names_of, rising_names}
-use Rattle.sarif_match.specs.Internal.Hidden.{HasEachNameOnce, HaveSameSnippet, is_of_two}
-use Rattle.sarif_match.specs.Internal.SameFinding.{AreMatchedAt, HaveUnlikeSnippets}
-use Rattle.sarif_match.proofs.AsMany.{group_place_left}
-use Rattle.sarif_match.proofs.BlindSpot.{keys_at}
-use Rattle.sarif_match.proofs.EvidenceLemmas.{unchanged_has_snippet}
-use Rattle.sarif_match.proofs.HiddenLemmas.{nothing_hidden}
-use Rattle.sarif_match.proofs.NoneLeft.{no_common_key}
-use Rattle.sarif_match.proofs.PairEvidence.{mapped}
+use Rattle.sarif_match_laws.specs.Hidden.{HasEachNameOnce, HaveSameSnippet, is_of_two}
+use Rattle.sarif_match_laws.specs.SameFinding.{AreMatchedAt, HaveUnlikeSnippets}
+use Rattle.sarif_match_laws.proofs.AsMany.{group_place_left}
+use Rattle.sarif_match_laws.proofs.BlindSpot.{keys_at}
+use Rattle.sarif_match_laws.proofs.EvidenceLemmas.{unchanged_has_snippet}
+use Rattle.sarif_match_laws.proofs.HiddenLemmas.{nothing_hidden}
+use Rattle.sarif_match_laws.proofs.NoneLeft.{no_common_key}
+use Rattle.sarif_match_laws.proofs.PairEvidence.{mapped}
 use Rattle.sarif_match.proofs.SortedLemmas.{has_names}
 use Rattle.sarif_match.proofs.SplitLemmas.{none_is_no_some}
-use Rattle.sarif_match.proofs.ValueLemmas.{same_text}
-use Rattle.sarif_match.proofs.VersionLaws.{but_last, last_is_group, seen_at}
+use Rattle.sarif_evidence.proofs.EqualLemmas.{same_text}
+use Rattle.sarif_match_laws.proofs.VersionLaws.{but_last, last_is_group, seen_at}
 use Rattle.sarif_match_laws.proofs.AnyOrder.{any_reverse}
 
 -- ---- tiers in a list

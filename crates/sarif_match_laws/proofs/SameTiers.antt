@@ -22,7 +22,7 @@ use Rattle.sarif_match.specs.Pairing.{pairs_from}
 use Rattle.sarif_match.specs.Partners.{after_tier, free, keyed_from, left, partners_after, put_all, with_key}
 use Rattle.sarif_match.specs.Tiers.{falling_names, finer_tiers, has_name, names_of, rising_names}
 use Rattle.sarif_match.proofs.SortedLemmas.{has_names, sorted_names}
-use Rattle.sarif_match.proofs.ValueLemmas.{same_text}
+use Rattle.sarif_evidence.proofs.EqualLemmas.{same_text}
 
 -- ---- lists
 

@@ -3,7 +3,7 @@ use Rattle.std.specs.Prelude.{◌≡◌, ℕ, List, [], Some, None, slice_get}
 use Rattle.std.specs.List.{AllByRecursion}
 use Rattle.sarif_model.specs.declared.record.Record.{Record}
 use Rattle.sarif_match.specs.Key.{group_of}
-use Rattle.sarif_match.specs.Seen.{seen}
+use Rattle.sarif_evidence.specs.Seen.{seen}
 
 -- no result has a GUID, or a partial fingerprint whose value isn't the empty string
 abbrev pub AreWithoutPartials : List Record → Type 0

@@ -2,9 +2,9 @@
 use Rattle.std.specs.Prelude.{◌≡◌, ℕ, ◌+◌, ◌<◌, ◌++◌, Bool, true, false, List, Option, bytes_eq, length, map, option_map}
 use Rattle.std.specs.List.{list_any}
 use Rattle.sarif_model.specs.declared.record.Record.{Record}
-use Rattle.sarif_match.specs.declared.version.MatchingVersion.{MatchingVersion}
+use Rattle.sarif_evidence.specs.declared.version.MatchingVersion.{MatchingVersion}
 use Rattle.sarif_match.specs.Partners.{is_taken, partners_in}
-use Rattle.sarif_match.specs.Internal.SameFinding.{match_in}
+use Rattle.sarif_match_laws.specs.SameFinding.{match_in}
 
 -- whether one of these results is of the tool
 abbrev pub has_tool : List ℕ → List Record → Bool

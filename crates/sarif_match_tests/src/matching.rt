@@ -5,7 +5,8 @@ mod seeded;
 mod tiers;
 mod words;
 
-use sarif_match::{Matching, MatchingVersion, match_all};
+use sarif_evidence::MatchingVersion;
+use sarif_match::{Matching, match_all};
 use sarif_model::Record;
 use std::alloc::AllocError;
 use std::process::Abort;

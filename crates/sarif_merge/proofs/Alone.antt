@@ -12,44 +12,45 @@ use Rattle.sarif_model.specs.declared.merge_fault.MergeFault.{MergeFault}
 use Rattle.sarif_model.specs.FirstFault.{IsOutOfResources}
 use Rattle.sarif_inputs.specs.Faults.{first_fault}
 use Rattle.sarif_inputs.specs.Inputs.{Inputs}
+use Rattle.sarif_choice.specs.declared.choice.Choosing.{Choosing}
 use Rattle.sarif_merge.specs.Life.{IsLifeOf, IsRefusal, no_life}
 use Rattle.sarif_streams.specs.declared.readers.Readers.{Readers}
 use Rattle.sarif_merge.specs.FromReaders.{IsMergedFrom, IsMergedWith, IsPartlyWritten, IsRefused, IsRefusedWith}
 
 -- the merge that was read is that of the log alone
 pub merged_alone : {R : Type 0} → (remaining : R → Option (List ℕ)) → (old new : Readers R) → (options : Options) → (asked : Option Reporting)
-    → (upkeep : Option Upkeep) → (merged : Merged)
-    → IsMergedWith remaining old new options asked upkeep merged → IsMergedFrom remaining old new options asked merged
-merged_alone remaining old new options asked upkeep merged with_life = (with_life.0, with_life.1, with_life.2)
+    → (choice : Option Choosing) → (upkeep : Option Upkeep) → (merged : Merged)
+    → IsMergedWith remaining old new options asked choice upkeep merged → IsMergedFrom remaining old new options asked merged
+merged_alone remaining old new options asked choice upkeep merged with_life = (with_life.0, with_life.1, with_life.2)
 
 -- there is nothing for later merges
-pub life_alone : (inputs : Inputs) (policy : Policy) (life : Life) → IsLifeOf inputs policy None life → life ≡ no_life
-life_alone inputs policy life kept = kept.is
+pub life_alone : (inputs : Inputs) (policy : Policy) (choice : Option Choosing) (life : Life) → IsLifeOf inputs policy choice None life → life ≡ no_life
+life_alone inputs policy choice life kept = kept.is
 
-pub kept_alone : {R : Type 0} → (remaining : R → Option (List ℕ)) → (old new : Readers R) → (options : Options) → (asked : Option Reporting) → (merged : Merged)
-    → IsMergedWith remaining old new options asked None merged → merged.life ≡ no_life
-kept_alone remaining old new options asked merged with_life = with_life.3.is
+pub kept_alone : {R : Type 0} → (remaining : R → Option (List ℕ)) → (old new : Readers R) → (options : Options) → (asked : Option Reporting) → (choice : Option Choosing)
+    → (merged : Merged) → IsMergedWith remaining old new options asked choice None merged → merged.life ≡ no_life
+kept_alone remaining old new options asked choice merged with_life = with_life.3.is
 
 -- a merge with nothing for later merges is rejected for no other reason
-pub refused_alone : {R : Type 0} → (remaining : R → Option (List ℕ)) → (old new : Readers R) → (options : Options) → (fault : MergeFault)
-    → IsRefusedWith remaining old new options None fault → IsRefused remaining old new options fault
-refused_alone remaining old new options fault refused = elim refused [ inl same ↦ same | inr large ↦ let never : ⊥ = cc large.1.3 in absurd never ]
+pub refused_alone : {R : Type 0} → (remaining : R → Option (List ℕ)) → (old new : Readers R) → (options : Options) → (choice : Option Choosing)
+    → (fault : MergeFault) → IsRefusedWith remaining old new options choice None fault → IsRefused remaining old new options fault
+refused_alone remaining old new options choice fault refused = elim refused [ inl same ↦ same | inr large ↦ let never : ⊥ = cc large.1.3 in absurd never ]
 
-pub refusal_alone : (inputs : Inputs) (policy : Policy) (fault : MergeFault) → IsRefusal inputs policy None fault → IsOutOfResources fault
+pub refusal_alone : (inputs : Inputs) (policy : Policy) (choice : Option Choosing) (fault : MergeFault) → IsRefusal inputs policy choice None fault → IsOutOfResources fault
     ⊎ (first_fault inputs ≡ Some fault)
-refusal_alone inputs policy fault (inl same) = same
-refusal_alone inputs policy fault (inr large) = let never : ⊥ = cc large.1 in absurd never
+refusal_alone inputs policy choice fault (inl same) = same
+refusal_alone inputs policy choice fault (inr large) = let never : ⊥ = cc large.1 in absurd never
 
 -- what rejects the merge of the log alone rejects the merge
-pub refused_first : {R : Type 0} → (remaining : R → Option (List ℕ)) → (old new : Readers R) → (options : Options) → (upkeep : Option Upkeep)
-    → (fault : MergeFault)
-    → IsRefused remaining old new options fault → IsRefusedWith remaining old new options upkeep fault
-refused_first remaining old new options upkeep fault refused = inl refused
+pub refused_first : {R : Type 0} → (remaining : R → Option (List ℕ)) → (old new : Readers R) → (options : Options) → (choice : Option Choosing)
+    → (upkeep : Option Upkeep) → (fault : MergeFault)
+    → IsRefused remaining old new options fault → IsRefusedWith remaining old new options choice upkeep fault
+refused_first remaining old new options choice upkeep fault refused = inl refused
 
 -- a prefix of the text of the log was written
 pub partly_written : {R : Type 0} → (remaining : R → Option (List ℕ)) → (old new : Readers R) → (options : Options) → (merged : Merged)
     → (before after : Option (List ℕ)) → (bytes : List ℕ) → (n : ℕ)
-    → IsMergedWith remaining old new options None None merged → bytes ≡ merged.log
+    → IsMergedWith remaining old new options None None None merged → bytes ≡ merged.log
     → n < length bytes → Appends before after (take n bytes) → IsPartlyWritten remaining old new options before after
 partly_written remaining old new options merged before after bytes n made same less written =
     let text = same ∙ made.2.log in

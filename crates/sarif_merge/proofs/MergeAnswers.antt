@@ -18,14 +18,14 @@ use Rattle.sarif_options.specs.declared.policy.Policy.{Policy}
 use Rattle.sarif_findings.specs.declared.reporting.Reporting.{Reporting}
 use Rattle.sarif_counts.specs.CountOf.{count_of}
 use Rattle.sarif_counts.specs.Gate.{gate_of}
-use Rattle.sarif_runs.specs.Judging.{faults_of_runs, records_of, run_faults, run_values}
+use Rattle.sarif_runs.specs.Judging.{faults_of_runs, run_faults, run_values}
 use Rattle.sarif_runs.specs.Placed.{Placed}
 use Rattle.sarif_log.specs.declared.merged.Merged.{Merged}
 use Rattle.sarif_log.specs.declared.prepared.Prepared.{Prepared}
 use Rattle.sarif_log.specs.Copies.{naming}
 use Rattle.sarif_log.specs.Counted.{IsMergedAs}
 use Rattle.sarif_log.specs.Internal.Prepared.{IsPreparedAs}
-use Rattle.sarif_log.specs.LogBy.{runs_without_results}
+use Rattle.sarif_log.specs.LogBy.{limited_records, runs_without_results}
 use Rattle.sarif_log.specs.declared.copies.CopyPlace.{CopyPlace}
 use Rattle.sarif_options.specs.declared.checks.Checks.{Checks}
 use Rattle.sarif_prepare.specs.By.{copies_if, counted_if, left_if, merge_by, runs_counted_if, written_if, IsPreparedBy}
@@ -39,6 +39,7 @@ use Rattle.sarif_counts.specs.declared.life.Life.{Life}
 use Rattle.sarif_options.specs.declared.upkeep.Upkeep.{Upkeep}
 use Rattle.sarif_upkeep.specs.Life.{life_faults}
 use Rattle.sarif_prepare.specs.Kept.{IsKept}
+use Rattle.sarif_choice.specs.declared.choice.Choosing.{Choosing}
 use Rattle.sarif_merge.specs.Merged.{IsMerged}
 use Rattle.sarif_merge.specs.MergedLog.{file_in}
 use Rattle.sarif_merge.specs.Internal.Prepared.{IsPreparedFor}
@@ -52,26 +53,26 @@ same_runs v file now before xs ys asked prepared h e f =
     subst (λ k. IsPreparedBy v file xs k asked prepared) f (subst (λ k. IsPreparedBy v file k before asked prepared) e h)
 
 -- what is for later merges, of the same runs
-pub same_kept : (v : Checks) (file : File) (bytes : Option (List ℕ)) (policy : Policy) (now before xs ys : List Placed) (upkeep : Option Upkeep) (life : Life)
-    → IsKept (merge_by v file bytes policy now before) upkeep life → now ≡ xs → before ≡ ys → IsKept (merge_by v file bytes policy xs ys) upkeep life
-same_kept v file bytes policy now before xs ys upkeep life h e f =
-    subst (λ k. IsKept (merge_by v file bytes policy xs k) upkeep life) f (subst (λ k. IsKept (merge_by v file bytes policy k before) upkeep life) e h)
+pub same_kept : (v : Checks) (file : File) (bytes : Option (List ℕ)) (policy : Policy) (choice : Option Choosing) (now before xs ys : List Placed) (upkeep : Option Upkeep) (life : Life)
+    → IsKept (merge_by v file bytes policy choice now before) upkeep life → now ≡ xs → before ≡ ys → IsKept (merge_by v file bytes policy choice xs ys) upkeep life
+same_kept v file bytes policy choice now before xs ys upkeep life h e f =
+    subst (λ k. IsKept (merge_by v file bytes policy choice xs k) upkeep life) f (subst (λ k. IsKept (merge_by v file bytes policy choice k before) upkeep life) e h)
 
-pub same_large : (v : Checks) (file : File) (bytes : Option (List ℕ)) (policy : Policy) (now before xs ys : List Placed) (upkeep : Option Upkeep) (fault : MergeFault)
-    → first (life_faults (merge_by v file bytes policy now before) upkeep) ≡ Some fault → now ≡ xs → before ≡ ys
-    → first (life_faults (merge_by v file bytes policy xs ys) upkeep) ≡ Some fault
-same_large v file bytes policy now before xs ys upkeep fault h e f =
-    subst (λ k. first (life_faults (merge_by v file bytes policy xs k) upkeep) ≡ Some fault) f
-    (subst (λ k. first (life_faults (merge_by v file bytes policy k before) upkeep) ≡ Some fault) e h)
+pub same_large : (v : Checks) (file : File) (bytes : Option (List ℕ)) (policy : Policy) (choice : Option Choosing) (now before xs ys : List Placed) (upkeep : Option Upkeep) (fault : MergeFault)
+    → first (life_faults (merge_by v file bytes policy choice now before) upkeep) ≡ Some fault → now ≡ xs → before ≡ ys
+    → first (life_faults (merge_by v file bytes policy choice xs ys) upkeep) ≡ Some fault
+same_large v file bytes policy choice now before xs ys upkeep fault h e f =
+    subst (λ k. first (life_faults (merge_by v file bytes policy choice xs k) upkeep) ≡ Some fault) f
+    (subst (λ k. first (life_faults (merge_by v file bytes policy choice k before) upkeep) ≡ Some fault) e h)
 
 -- what is assembled of what was prepared for these inputs
-pub assembled_is : (inputs : Inputs) (policy : Policy) (asked : Option Reporting) (upkeep : Option Upkeep) (prepared : Prepared) (merged : Merged)
-    → IsPreparedFor inputs policy asked upkeep prepared
+pub assembled_is : (inputs : Inputs) (policy : Policy) (asked : Option Reporting) (choice : Option Choosing) (upkeep : Option Upkeep) (prepared : Prepared)
+    (merged : Merged) → IsPreparedFor inputs policy asked choice upkeep prepared
     → ((runs counted : List Data) (places : Option (List CopyPlace)) (bare idle : ℕ) (told : Option Reporting)
     → IsPreparedAs runs counted places bare idle told prepared → IsMergedAs runs counted places policy bare idle told merged)
     → merged.expired ≡ prepared.expired
     → IsMerged inputs policy asked merged
-assembled_is inputs policy asked upkeep prepared merged ready assembled past =
+assembled_is inputs policy asked choice upkeep prepared merged ready assembled past =
     let checks = inputs.checks in
     let entries = file_in (file_or_none inputs.suppressions inputs.today) in
     let logs = placed (numbered inputs.checks Log 0 inputs.logs) in
@@ -79,7 +80,7 @@ assembled_is inputs policy asked upkeep prepared merged ready assembled past =
     let counted = runs_counted_if checks.once checks.matching entries logs baselines in
     let places = copies_if checks.once checks.matching logs baselines in
     let bare = runs_without_results (run_values logs) in
-    let idle = unused_of entries (records_of (counted_if checks.once logs)) in
+    let idle = unused_of entries (limited_records entries (counted_if checks.once logs)) in
     let made = assembled (written_if checks.once checks.matching entries logs baselines) counted places bare idle asked ready.written in record {
       faultless = ready.faultless;
       begins = (

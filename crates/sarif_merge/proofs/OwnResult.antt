@@ -13,9 +13,9 @@ use Rattle.sarif_model.specs.declared.record.Record.{Record}
 use Rattle.sarif_model.specs.Members.{elements}
 use Rattle.sarif_model.specs.Run.{elements_or_none, is_absent_result, result_at, results_of, results_total}
 use Rattle.sarif_runs.specs.Record.{record_of}
-use Rattle.sarif_match.specs.declared.version.MatchingVersion.{MatchingVersion}
+use Rattle.sarif_evidence.specs.declared.version.MatchingVersion.{MatchingVersion}
 use Rattle.sarif_match.specs.Partners.{partners_in}
-use Rattle.sarif_match.specs.Evidence.{state_in}
+use Rattle.sarif_evidence.specs.Evidence.{state_in}
 use Rattle.sarif_model.specs.declared.merge_fault.At.{At}
 use Rattle.sarif_model.specs.declared.merge_fault.At.TheVariants.{Single}
 use Rattle.sarif_model.specs.declared.merge_fault.Source.TheVariants.{Log, Baseline}
@@ -26,19 +26,21 @@ use Rattle.sarif_runs.specs.Judging.{faults_of_runs, first_bad, item_by, item_of
 use Rattle.sarif_runs.specs.declared.run_options.RecordOptions.{RecordOptions}
 use Rattle.sarif_runs.specs.Placed.{AreReadWith, Placed}
 use Rattle.sarif_results.specs.Drafts.{Listing}
+use Rattle.sarif_suppress.specs.Limited.{with_spent}
 use Rattle.sarif_log.specs.MergedRuns.{annotated_items, bare, merged_run, merged_runs, own_results, with_results, written, written_all}
 use Rattle.json_parts.specs.Without.{without}
 use Rattle.sarif_log.proofs.RunResults.{still_out, taken_out}
 use Rattle.sarif_log.specs.LogBy.{listing_of, partner_in, states_from, states_of}
 use Rattle.sarif_results.proofs.JudgedCounts.{no_fault, no_faults_here, no_faults_left, records_of_log, records_of_logs}
+use Rattle.sarif_log.proofs.Limits.{limited_at_place, limited_long}
 use Rattle.sarif_log.proofs.Sides.{states_long}
 use Rattle.sarif_inputs.specs.Faults.{faults_of, file_faults, number_faults}
 use Rattle.sarif_entries.specs.Given.{file_or_none}
 use Rattle.sarif_inputs.specs.Inputs.{Inputs, all_runs, all_sources, baseline_runs, input_runs, record_options}
 use Rattle.sarif_inputs.specs.SourceFaults.{source_faults}
 use Rattle.sarif_inputs.proofs.ReadFacts.{log_sides, read_alike}
-use Rattle.sarif_merge.specs.MergedLog.{current_of, file_given, written_inputs}
-use Rattle.sarif_merge.specs.OwnResult.{IsResult, baseline_of, partner_at, number_among_all, run_at, written_by, written_run}
+use Rattle.sarif_merge.specs.MergedLog.{current_of, file_given, limited_of, written_inputs}
+use Rattle.sarif_merge.specs.OwnResult.{IsResult, baseline_of, partner_at, number_among_all, run_at, spent_at, written_by, written_run}
 
 -- ---- runs and results by their places
 
@@ -227,7 +229,7 @@ faultless_runs inputs none =
 pub runs_same : (inputs : Inputs) → length (written_inputs inputs) ≡ length (input_runs inputs)
 runs_same inputs =
     let now = input_runs inputs in
-    runs_written (listing_of (file_given inputs)) (current_of inputs) (states_of inputs.checks.matching (current_of inputs) (baseline_of inputs)) (run_values now)
+    runs_written (listing_of (file_given inputs)) (limited_of inputs) (states_of inputs.checks.matching (current_of inputs) (baseline_of inputs)) (run_values now)
     ∙ length-map now (λ p. p.run)
 
 pub results_same : (inputs : Inputs) (k : ℕ) → k < length (input_runs inputs)
@@ -235,13 +237,13 @@ pub results_same : (inputs : Inputs) (k : ℕ) → k < length (input_runs inputs
 results_same inputs k there =
     let now = input_runs inputs in
     let runs = run_values now in
-    let rs = current_of inputs in
-    let ss = states_of inputs.checks.matching rs (baseline_of inputs) in
+    let qs = limited_of inputs in
+    let ss = states_of inputs.checks.matching (current_of inputs) (baseline_of inputs) in
     let listed = listing_of (file_given inputs) in
     let run = run_at inputs k in
-    let own_records = take (length (results_of run)) (drop (results_total (take k runs)) rs) in
+    let own_records = take (length (results_of run)) (drop (results_total (take k runs)) qs) in
     let own_states = take (length (results_of run)) (drop (results_total (take k runs)) ss) in
-    ap (λ d. length (results_of d)) (merged_at listed rs ss runs k (omega (arith, there, length-map now (λ p. p.run))))
+    ap (λ d. length (results_of d)) (merged_at listed qs ss runs k (omega (arith, there, length-map now (λ p. p.run))))
     ∙ ap length (merged_results listed own_records own_states run)
     ∙ results_written listed own_records own_states (results_of run)
 
@@ -252,6 +254,7 @@ own_result inputs k seq none there =
     let now = input_runs inputs in
     let runs = run_values now in
     let rs = current_of inputs in
+    let qs = limited_of inputs in
     let bs = baseline_of inputs in
     let ss = states_of inputs.checks.matching rs bs in
     let listed = listing_of (file_given inputs) in
@@ -263,22 +266,26 @@ own_result inputs k seq none there =
     let alike = read_alike inputs.checks Log 0 inputs.logs in
     let own = record_at (record_options inputs.checks) now k seq sound logs alike there.0 there.1 in
     let r = own.0 in
+    let q = with_spent r (spent_at inputs (b + seq)) in
     let s = state_in inputs.checks.matching r (partner_at inputs (b + seq)) in
     let in_runs : k < length runs = omega (arith, there.0, length-map now (λ p. p.run)) in
     let fits : b + c ≤ length rs = omega (arith, within_total runs k in_runs, records_of_logs now sound logs) in
+    let fits_records : b + c ≤ length qs = omega (arith, fits, limited_long (file_given inputs) rs) in
     let fits_states : b + c ≤ length ss = omega (arith, fits, states_long inputs.checks.matching bs (partners_in inputs.checks.matching rs bs) 0 rs) in
     let in_all : b + seq < length rs = omega (arith, fits, there.1) in
-    let record_is : get_or (take c (drop b rs)) seq r ≡ r = part_at rs b c seq r there.1 ∙ own.2 r in
+    let record_is : get_or (take c (drop b qs)) seq q ≡ q =
+    part_at qs b c seq q there.1 ∙ limited_at_place (file_given inputs) rs (b + seq) r q in_all
+    ∙ ap (λ found. with_spent found (spent_at inputs (b + seq))) (own.2 r) in
     let state_is : get_or (take c (drop b ss)) seq s ≡ s =
     part_at ss b c seq s there.1 ∙ state_at inputs.checks.matching bs (partners_in inputs.checks.matching rs bs) 0 (b + seq) (b + seq) rs r s in_all (omega arith)
-    ∙ ap (λ q. state_in inputs.checks.matching q (partner_at inputs (b + seq))) (own.2 r) in
-    let in_records : seq < length (take c (drop b rs)) = omega (arith, there.1, part_long rs b c fits) in
+    ∙ ap (λ found. state_in inputs.checks.matching found (partner_at inputs (b + seq))) (own.2 r) in
+    let in_records : seq < length (take c (drop b qs)) = omega (arith, there.1, part_long qs b c fits_records) in
     let in_states : seq < length (take c (drop b ss)) = omega (arith, there.1, part_long ss b c fits_states) in (
       r,
       own.1,
-      ap (λ d. result_at d seq) (merged_at listed rs ss runs k in_runs)
-          ∙ ap (λ ds. get_or ds seq null) (merged_results listed (take c (drop b rs)) (take c (drop b ss)) run)
-          ∙ written_at listed (take c (drop b rs)) (take c (drop b ss)) (results_of run) seq r s in_records in_states there.1
-          ∙ ap (λ q. written listed q (get_or (take c (drop b ss)) seq s) (result_at run seq)) record_is
-          ∙ ap (λ q. written listed r q (result_at run seq)) state_is,
+      ap (λ d. result_at d seq) (merged_at listed qs ss runs k in_runs)
+          ∙ ap (λ ds. get_or ds seq null) (merged_results listed (take c (drop b qs)) (take c (drop b ss)) run)
+          ∙ written_at listed (take c (drop b qs)) (take c (drop b ss)) (results_of run) seq q s in_records in_states there.1
+          ∙ ap (λ found. written listed found (get_or (take c (drop b ss)) seq s) (result_at run seq)) record_is
+          ∙ ap (λ state. written listed q state (result_at run seq)) state_is,
     )

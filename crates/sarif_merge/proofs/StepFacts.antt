@@ -15,7 +15,7 @@ use Rattle.sarif_model.specs.declared.merge_fault.MergeFault.{MergeFault}
 use Rattle.sarif_model.specs.declared.merge_fault.Source.TheVariants.{Log, Baseline}
 use Rattle.sarif_model.proofs.SourceAnswers.{still_first}
 use Rattle.sarif_entries.specs.File.{File}
-use Rattle.sarif_runs.specs.Judging.{faults_of_runs, records_of, run_values, skips}
+use Rattle.sarif_runs.specs.Judging.{faults_of_runs, run_values, skips}
 use Rattle.sarif_runs.specs.Internal.Opened.{placed_of}
 use Rattle.sarif_runs.specs.Placed.{Placed}
 use Rattle.sarif_runs.specs.declared.opened.OpenedRun.{OpenedRun}
@@ -32,12 +32,12 @@ use Rattle.sarif_inputs.specs.SourceFaults.{source_faults}
 use Rattle.sarif_inputs.specs.declared.sources.Runs.{Runs}
 use Rattle.sarif_inputs.proofs.ReadFacts.{baseline_sides, log_sides}
 use Rattle.sarif_log.specs.Counted.{IsMergedAs}
-use Rattle.sarif_log.specs.LogBy.{expired_of}
+use Rattle.sarif_log.specs.LogBy.{expired_of, limited_records}
 use Rattle.sarif_log.specs.declared.copies.CopyPlace.{CopyPlace}
 use Rattle.serde_json.specs.Data.{Data}
 use Rattle.sarif_prepare.specs.By.{merge_by, IsPreparedBy}
 use Rattle.sarif_prepare.specs.Kept.{IsKept, IsUnkept}
-use Rattle.sarif_prepare.specs.Asked.{reporting_in, upkeep_in}
+use Rattle.sarif_prepare.specs.Asked.{choice_in, reporting_in, upkeep_in}
 use Rattle.sarif_log.specs.Internal.Prepared.{IsPreparedAs}
 use Rattle.sarif_log.specs.declared.merged.Merged.{Merged}
 use Rattle.sarif_log.specs.declared.prepared.Prepared.{Prepared}
@@ -46,7 +46,7 @@ use Rattle.sarif_upkeep.specs.Internal.IsMatched.{IsFileOf}
 use Rattle.sarif_upkeep.specs.Life.{life_faults}
 use Rattle.sarif_merge.specs.Life.{IsLifeOf, IsRefusal}
 use Rattle.sarif_merge.specs.Merged.{IsMerged}
-use Rattle.sarif_merge.specs.MergedLog.{current_of, file_given, file_in}
+use Rattle.sarif_merge.specs.MergedLog.{file_given, file_in}
 use Rattle.sarif_merge.specs.Internal.Steps.{AreBaselinesJudged, AreBaselinesOpened, AreIndexesIn, AreLogsJudged, AreLogsOpened, AreLogsSound, AreOpened, IsFileIn, IsMergeOf, IsReady, IsRead, IsRejection, checks_in, inputs_in, policy_in}
 use Rattle.sarif_merge.specs.declared.steps.Merging.{Merging}
 use Rattle.sarif_merge.proofs.ReadObjects.{objects_in}
@@ -239,8 +239,8 @@ none_left m file now before read logs baselines =
 pub is_ready : (m : Merging) (bytes : Option (List ℕ)) (file : File) (now before : Judged) (prepared : Prepared) → IsFileIn m file
     → AreLogsJudged m now → AreBaselinesJudged m before
     → bytes ≡ (inputs_in m).suppressions → IsPreparedBy (checks_in m) file (placed_in now) (placed_in before) (reporting_in m.asked.now) prepared
-    → prepared.expired ≡ expired_of file (records_of (placed_in now))
-    → IsKept (merge_by (checks_in m) file bytes (policy_in m) (placed_in now) (placed_in before)) (upkeep_in m.asked.now) prepared.life → IsReady m prepared
+    → prepared.expired ≡ expired_of file (limited_records file (placed_in now))
+    → IsKept (merge_by (checks_in m) file bytes (policy_in m) (choice_in m.asked.now) (placed_in now) (placed_in before)) (upkeep_in m.asked.now) prepared.life → IsReady m prepared
 unfolding IsReady AreLogsJudged AreBaselinesJudged
 is_ready m bytes file now before prepared read logs baselines is ready past kept =
     let inputs = inputs_in m in
@@ -252,16 +252,17 @@ is_ready m bytes file now before prepared read logs baselines is ready past kept
       written =
           subst (λ f. IsPreparedBy (checks_in m) f xs ys asked prepared) (same_file m file read)
           (same_runs (checks_in m) file (placed_in now) (placed_in before) xs ys asked prepared ready logs.0 baselines.0);
-      expired = past ∙ ap (λ runs. expired_of file (records_of runs)) logs.0 ∙ ap (λ f. expired_of f (current_of inputs)) (same_file m file read);
-      kept = subst (λ f. IsKept (merge_by (checks_in m) f inputs.suppressions (policy_in m) xs ys) upkeep prepared.life) (same_file m file read)
-          (subst (λ b. IsKept (merge_by (checks_in m) file b (policy_in m) xs ys) upkeep prepared.life) is
-          (same_kept (checks_in m) file bytes (policy_in m) (placed_in now) (placed_in before) xs ys upkeep prepared.life kept logs.0 baselines.0));
+      expired = past ∙ ap (λ runs. expired_of file (limited_records file runs)) logs.0
+          ∙ ap (λ f. expired_of f (limited_records f xs)) (same_file m file read);
+      kept = subst (λ f. IsKept (merge_by (checks_in m) f inputs.suppressions (policy_in m) (choice_in m.asked.now) xs ys) upkeep prepared.life) (same_file m file read)
+          (subst (λ b. IsKept (merge_by (checks_in m) file b (policy_in m) (choice_in m.asked.now) xs ys) upkeep prepared.life) is
+          (same_kept (checks_in m) file bytes (policy_in m) (choice_in m.asked.now) (placed_in now) (placed_in before) xs ys upkeep prepared.life kept logs.0 baselines.0));
     }
 
 pub rejected_life : (m : Merging) (bytes : Option (List ℕ)) (file : File) (now before : Judged) (fault : MergeFault) → IsFileIn m file
     → AreLogsJudged m now → AreBaselinesJudged m before
     → bytes ≡ (inputs_in m).suppressions
-    → IsUnkept (merge_by (checks_in m) file bytes (policy_in m) (placed_in now) (placed_in before)) (upkeep_in m.asked.now) fault → IsRejection m fault
+    → IsUnkept (merge_by (checks_in m) file bytes (policy_in m) (choice_in m.asked.now) (placed_in now) (placed_in before)) (upkeep_in m.asked.now) fault → IsRejection m fault
 unfolding IsRejection AreLogsJudged AreBaselinesJudged
 rejected_life m bytes file now before fault read logs baselines is unkept =
     let inputs = inputs_in m in
@@ -272,12 +273,12 @@ rejected_life m bytes file now before fault read logs baselines is unkept =
         | inl out ↦ inl (inl (inl out))
         | inr found ↦ inr (
           none_left m file now before read logs baselines,
-          subst (λ f. first (life_faults (merge_by (checks_in m) f inputs.suppressions (policy_in m) xs ys) upkeep) ≡ Some fault) (same_file m file read)
-              (subst (λ b. first (life_faults (merge_by (checks_in m) file b (policy_in m) xs ys) upkeep) ≡ Some fault) is
-              (same_large (checks_in m) file bytes (policy_in m) (placed_in now) (placed_in before) xs ys upkeep fault found logs.0 baselines.0)),
+          subst (λ f. first (life_faults (merge_by (checks_in m) f inputs.suppressions (policy_in m) (choice_in m.asked.now) xs ys) upkeep) ≡ Some fault) (same_file m file read)
+              (subst (λ b. first (life_faults (merge_by (checks_in m) file b (policy_in m) (choice_in m.asked.now) xs ys) upkeep) ≡ Some fault) is
+              (same_large (checks_in m) file bytes (policy_in m) (choice_in m.asked.now) (placed_in now) (placed_in before) xs ys upkeep fault found logs.0 baselines.0)),
         )
       ],
-      unkept_quiet (merge_by (checks_in m) file bytes (policy_in m) (placed_in now) (placed_in before)) upkeep fault unkept,
+      unkept_quiet (merge_by (checks_in m) file bytes (policy_in m) (choice_in m.asked.now) (placed_in now) (placed_in before)) upkeep fault unkept,
     )
 
 -- ---- assemble
@@ -288,8 +289,8 @@ pub is_merge_of : (m : Merging) (prepared : Prepared) (merged : Merged) → IsRe
     → merged.expired ≡ prepared.expired → merged.life ≡ prepared.life → IsMergeOf m merged
 unfolding IsReady IsMergeOf
 is_merge_of m prepared merged ready assembled past same = (
-  assembled_is (inputs_in m) (policy_in m) (reporting_in m.asked.now) (upkeep_in m.asked.now) prepared merged ready assembled past,
-  subst (IsLifeOf (inputs_in m) (policy_in m) (upkeep_in m.asked.now)) (sym same) ready.kept,
+  assembled_is (inputs_in m) (policy_in m) (reporting_in m.asked.now) (choice_in m.asked.now) (upkeep_in m.asked.now) prepared merged ready assembled past,
+  subst (IsLifeOf (inputs_in m) (policy_in m) (choice_in m.asked.now) (upkeep_in m.asked.now)) (sym same) ready.kept,
 )
 
 -- ---- the merge
@@ -298,11 +299,11 @@ pub merge_is : (m : Merging) (merged : Merged) → IsMergeOf m merged → IsMerg
 unfolding IsMergeOf
 merge_is m merged is = is.0
 
-pub life_is : (m : Merging) (merged : Merged) → IsMergeOf m merged → IsLifeOf (inputs_in m) (policy_in m) (upkeep_in m.asked.now) merged.life
+pub life_is : (m : Merging) (merged : Merged) → IsMergeOf m merged → IsLifeOf (inputs_in m) (policy_in m) (choice_in m.asked.now) (upkeep_in m.asked.now) merged.life
 unfolding IsMergeOf
 life_is m merged is = is.1
 
-pub refusal_is : (m : Merging) (fault : MergeFault) → IsRejection m fault → IsRefusal (inputs_in m) (policy_in m) (upkeep_in m.asked.now) fault
+pub refusal_is : (m : Merging) (fault : MergeFault) → IsRejection m fault → IsRefusal (inputs_in m) (policy_in m) (choice_in m.asked.now) (upkeep_in m.asked.now) fault
 unfolding IsRejection
 refusal_is m fault is = is.0
 

@@ -7,6 +7,7 @@ use Rattle.json_parts.specs.Indexed.{json_of}
 use Rattle.json_parts.specs.Mark.{without_mark}
 use Rattle.sarif_model.specs.Limits.{most_bytes, most_entries}
 use Rattle.sarif_model.specs.declared.merge_fault.MergeFault.{MergeFault}
+use Rattle.sarif_model.specs.declared.merge_fault.At.{At}
 use Rattle.sarif_model.specs.declared.merge_fault.At.TheVariants.{Whole}
 use Rattle.sarif_model.specs.declared.merge_fault.Cause.TheVariants.{TooLong}
 use Rattle.sarif_model.specs.declared.merge_fault.Source.TheVariants.{Suppress, Known}
@@ -22,7 +23,7 @@ use Rattle.sarif_entries.specs.File.{check_count, check_list, check_version, ent
 use Rattle.sarif_read.proofs.WholeRuns.{bind_ok}
 use Rattle.sarif_upkeep.specs.Internal.IsMatched.{IsFileOf}
 use Rattle.sarif_upkeep.specs.Known.{known_faults, runs_known}
-use Rattle.sarif_upkeep.specs.Life.{if_known, if_renewed, life_faults}
+use Rattle.sarif_upkeep.specs.Life.{if_known, if_misfit, if_renewed, life_faults}
 use Rattle.sarif_upkeep.specs.Merge.{Merge}
 use Rattle.sarif_upkeep.specs.Renewed.{entries_count, rules_after, text_faults}
 use Rattle.sarif_prepare.specs.Kept.{IsUnkept}
@@ -58,9 +59,15 @@ of_known_if : (m : Merge) (knowing : Option Knowing) → AllByRecursion IsQuietF
 of_known_if m None = tt
 of_known_if m (Some knowing) = of_known m knowing
 
+of_misfit : (misfit : Option At) → AllByRecursion IsQuietFault (if_misfit misfit)
+of_misfit None = tt
+of_misfit (Some at) = (refl, tt)
+
 of_life : (m : Merge) (upkeep : Option Upkeep) → AllByRecursion IsQuietFault (life_faults m upkeep)
 of_life m None = tt
-of_life m (Some upkeep) = all_both (if_renewed m upkeep.renewal) (if_known m upkeep.known) (of_renewed m upkeep.renewal) (of_known_if m upkeep.known)
+of_life m (Some upkeep) =
+    all_both (if_misfit m.misfit) (if_renewed m upkeep.renewal ++ if_known m upkeep.known) (of_misfit m.misfit)
+    (all_both (if_renewed m upkeep.renewal) (if_known m upkeep.known) (of_renewed m upkeep.renewal) (of_known_if m upkeep.known))
 
 first_quiet : (faults : List MergeFault) (fault : MergeFault) → AllByRecursion IsQuietFault faults → first faults ≡ Some fault → IsQuietFault fault
 first_quiet [] fault all is = let never : ⊥ = cc in absurd never

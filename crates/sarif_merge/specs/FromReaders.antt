@@ -14,6 +14,7 @@ use Rattle.sarif_log.specs.declared.merged.Merged.{Merged}
 use Rattle.sarif_inputs.specs.Faults.{IsTooMany, faults_of, first_fault}
 use Rattle.sarif_model.specs.FirstFault.{IsOutOfResources}
 use Rattle.sarif_merge.specs.Given.{given_by}
+use Rattle.sarif_choice.specs.declared.choice.Choosing.{Choosing}
 use Rattle.sarif_merge.specs.Life.{IsLifeOf, IsTooLarge}
 use Rattle.sarif_merge.specs.Merged.{IsMerged}
 use Rattle.sarif_merge.specs.MergedLog.{output_text}
@@ -56,26 +57,27 @@ IsMergedFrom remaining old new options asked merged =
 
 -- all sources were read, and this is the merge of what was read, with what is for later merges
 abbrev pub IsMergedWith : {R : Type 0} → (R → Option (List ℕ)) → Readers R → Readers R
-    → Options → Option Reporting → Option Upkeep → Merged → Type 0
-IsMergedWith remaining old new options asked upkeep merged =
+    → Options → Option Reporting → Option Choosing → Option Upkeep → Merged → Type 0
+IsMergedWith remaining old new options asked choice upkeep merged =
     (contents : SourceContents) × WereRead remaining old new contents
     × IsMerged (given_by contents options) options.policy asked merged
-    × IsLifeOf (given_by contents options) options.policy upkeep merged.life
+    × IsLifeOf (given_by contents options) options.policy choice upkeep merged.life
 
--- the first file that was requested for later merges and is too large to be read again
-abbrev pub IsTooLargeWith : SourceContents → Options → Option Upkeep → MergeFault → Type 0
-IsTooLargeWith contents options upkeep fault =
-    IsTooLarge (given_by contents options) options.policy upkeep fault
+-- the first error of what was requested for later merges
+abbrev pub IsTooLargeWith : SourceContents → Options → Option Choosing → Option Upkeep
+    → MergeFault → Type 0
+IsTooLargeWith contents options choice upkeep fault =
+    IsTooLarge (given_by contents options) options.policy choice upkeep fault
 
 -- a rejection before anything is written, of a merge with what is for later merges: after the errors of the inputs
 -- comes what is too large to be read again
 abbrev pub IsRefusedWith : {R : Type 0} → (R → Option (List ℕ)) → Readers R → Readers R
-    → Options → Option Upkeep → MergeFault → Type 0
-IsRefusedWith remaining old new options upkeep fault =
+    → Options → Option Choosing → Option Upkeep → MergeFault → Type 0
+IsRefusedWith remaining old new options choice upkeep fault =
     IsRefused remaining old new options fault
     ⊎ (AreFew old × ((contents : SourceContents) × WereRead remaining old new contents
     × (faults_of (given_by contents options) ≡ [])
-    × IsTooLargeWith contents options upkeep fault))
+    × IsTooLargeWith contents options choice upkeep fault))
 
 -- all sources were read, they have no errors, and a proper prefix of the text was written
 abbrev pub IsPartlyWritten : {R : Type 0} → (R → Option (List ℕ)) → Readers R → Readers R

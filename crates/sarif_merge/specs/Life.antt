@@ -8,6 +8,7 @@ use Rattle.sarif_model.specs.FirstFault.{first, IsOutOfResources}
 use Rattle.sarif_upkeep.specs.Life.{life_faults}
 use Rattle.sarif_upkeep.specs.Merge.{Merge}
 use Rattle.sarif_prepare.specs.By.{merge_by}
+use Rattle.sarif_choice.specs.declared.choice.Choosing.{Choosing}
 use Rattle.sarif_prepare.specs.Kept.{merge_of, IsKept}
 use Rattle.sarif_inputs.specs.Faults.{faults_of, first_fault}
 use Rattle.sarif_inputs.specs.Inputs.{Inputs, input_runs, baseline_runs}
@@ -19,10 +20,10 @@ merge_in inputs policy =
     merge_of inputs.checks.matching (file_given inputs) inputs.suppressions policy
     (input_runs inputs) (baseline_runs inputs)
 
--- the merge of the results that are counted
-abbrev pub merge_counted : Inputs → Policy → Merge
-merge_counted inputs policy =
-    merge_by inputs.checks (file_given inputs) inputs.suppressions policy
+-- the merge of the results that are counted, with the choice of hits if there is one
+abbrev pub merge_counted : Inputs → Policy → Option Choosing → Merge
+merge_counted inputs policy choice =
+    merge_by inputs.checks (file_given inputs) inputs.suppressions policy choice
     (input_runs inputs) (baseline_runs inputs)
 
 -- nothing for later merges
@@ -30,17 +31,18 @@ abbrev pub no_life : Life
 no_life = record { suppressions = None; unused = None; known = None }
 
 -- what is for later merges is what was requested and nothing else, and each file of it is read as it is defined
-abbrev pub IsLifeOf : Inputs → Policy → Option Upkeep → Life → Type 0
-IsLifeOf inputs policy upkeep life = IsKept (merge_counted inputs policy) upkeep life
+abbrev pub IsLifeOf : Inputs → Policy → Option Choosing → Option Upkeep → Life → Type 0
+IsLifeOf inputs policy choice upkeep life = IsKept (merge_counted inputs policy choice) upkeep life
 
--- the first file of what was requested for later merges that could not be read again, and why
-abbrev pub IsTooLarge : Inputs → Policy → Option Upkeep → MergeFault → Type 0
-IsTooLarge inputs policy upkeep fault =
-    first (life_faults (merge_counted inputs policy) upkeep) ≡ Some fault
+-- the first error of what was requested for later merges: a place or a rule that fits no chosen hit, and then a file
+-- that could not be read again
+abbrev pub IsTooLarge : Inputs → Policy → Option Choosing → Option Upkeep → MergeFault → Type 0
+IsTooLarge inputs policy choice upkeep fault =
+    first (life_faults (merge_counted inputs policy choice) upkeep) ≡ Some fault
 
 -- why a merge that was read is rejected: memory ran out, a thread could not be started, or this is the first error of
--- the inputs; or they have none, and what was requested for later merges is too large
-abbrev pub IsRefusal : Inputs → Policy → Option Upkeep → MergeFault → Type 0
-IsRefusal inputs policy upkeep fault =
+-- the inputs; or they have none, and this is the first of what was requested for later merges
+abbrev pub IsRefusal : Inputs → Policy → Option Choosing → Option Upkeep → MergeFault → Type 0
+IsRefusal inputs policy choice upkeep fault =
     (IsOutOfResources fault ⊎ (first_fault inputs ≡ Some fault))
-    ⊎ ((faults_of inputs ≡ []) × IsTooLarge inputs policy upkeep fault)
+    ⊎ ((faults_of inputs ≡ []) × IsTooLarge inputs policy choice upkeep fault)

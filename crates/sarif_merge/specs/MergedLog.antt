@@ -8,7 +8,7 @@ use Rattle.sarif_suppress.specs.Suppressing.{unused_of}
 use Rattle.sarif_entries.specs.declared.fault.FileFault.{FileFault}
 use Rattle.sarif_options.specs.declared.policy.Policy.{Policy}
 use Rattle.sarif_runs.specs.Judging.{records_of, run_values}
-use Rattle.sarif_log.specs.LogBy.{current_runs, expired_of, runs_by, runs_without_results}
+use Rattle.sarif_log.specs.LogBy.{current_runs, expired_of, limited_records, runs_by, runs_without_results}
 use Rattle.sarif_log.specs.declared.copies.CopyPlace.{CopyPlace}
 use Rattle.sarif_entries.specs.Given.{file_or_none}
 use Rattle.sarif_inputs.specs.Inputs.{Inputs, input_runs, baseline_runs}
@@ -25,6 +25,10 @@ file_given inputs = file_in (file_or_none inputs.suppressions inputs.today)
 -- the records of all results of the logs
 abbrev pub current_of : Inputs → List Record
 current_of inputs = records_of (input_runs inputs)
+
+-- the same, each with the entries of the suppression file that are used up before it
+abbrev pub limited_of : Inputs → List Record
+limited_of inputs = limited_records (file_given inputs) (input_runs inputs)
 
 -- the input runs as they are written if each result is counted: each result once, in order, with its level, its state
 -- and its suppressions
@@ -43,11 +47,11 @@ without_of inputs = runs_without_results (run_values (input_runs inputs))
 
 -- how many entries of the suppression file match no current result
 abbrev pub unused_in : Inputs → ℕ
-unused_in inputs = unused_of (file_given inputs) (current_of inputs)
+unused_in inputs = unused_of (file_given inputs) (limited_of inputs)
 
 -- how many of these are expired
 abbrev pub expired_in : Inputs → ℕ
-expired_in inputs = expired_of (file_given inputs) (current_of inputs)
+expired_in inputs = expired_of (file_given inputs) (limited_of inputs)
 
 -- ---- copies that aren't counted
 
@@ -77,7 +81,8 @@ copies_in_log inputs =
 -- how many entries of the suppression file match no current result that is counted
 abbrev pub unused_counted : Inputs → ℕ
 unused_counted inputs =
-    unused_of (file_given inputs) (records_of (counted_if inputs.checks.once (input_runs inputs)))
+    unused_of (file_given inputs)
+    (limited_records (file_given inputs) (counted_if inputs.checks.once (input_runs inputs)))
 
 -- ---- the log
 

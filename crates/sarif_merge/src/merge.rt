@@ -3,7 +3,7 @@ ghost use Rattle.std.specs.Prelude.{◌≡◌, ◌≤◌, ◌+◌, ◌⊎◌, []
 ghost use Rattle.sarif_model.specs.MergeFault.{IsQuiet};
 ghost use Rattle.sarif_log.specs.Beside.{IsMadeBy};
 ghost use Rattle.sarif_log.specs.Assembled.{HasGate};
-ghost use Rattle.sarif_prepare.specs.Asked.{reporting_in, upkeep_in};
+ghost use Rattle.sarif_prepare.specs.Asked.{choice_in, reporting_in, upkeep_in};
 ghost use Rattle.sarif_model.specs.FirstFault.{IsOutOfResources};
 ghost use Rattle.sarif_inputs.specs.Faults.{faults_of, first_fault};
 ghost use Rattle.sarif_merge.specs.Given.{inputs_of};
@@ -92,10 +92,10 @@ pub(crate) fn merge_few<
     ensures merged { IfOk result (λ made. IsMerged (inputs_of sources.now asked.now.options.now)
         asked.now.options.now.policy (reporting_in asked.now) made.0) }
     ensures life { IfOk result (λ made. IsLifeOf (inputs_of sources.now asked.now.options.now)
-        asked.now.options.now.policy (upkeep_in asked.now) made.0.life) }
+        asked.now.options.now.policy (choice_in asked.now) (upkeep_in asked.now) made.0.life) }
     ensures told { IfOk result (λ made. IsMadeBy Tell.FnOnce tell made.0 (Ok made.1)) }
     ensures refused { IfErr result (IsRefusal (inputs_of sources.now asked.now.options.now)
-        asked.now.options.now.policy (upkeep_in asked.now)) }
+        asked.now.options.now.policy (choice_in asked.now) (upkeep_in asked.now)) }
     ensures quiet { IsQuiet result }
 {
     let merging = Merging { sources, asked };
@@ -158,6 +158,7 @@ pub fn merge_bytes<G: Gate + Sync, R: Threads + Wait + Sync>(
         options,
         reporting: None,
         upkeep: None,
+        choice: None,
     };
     let (merged, ()) = merge_few(rt, alloc, sources, &asked, observer, tell_nothing)?;
     Ok(merged)

@@ -5,7 +5,7 @@ ghost use Rattle.sarif_streams.specs.Counted.{inner_of, failed_calls, RisesIf};
 ghost use Rattle.sarif_model.specs.MergeFault.{read_failed_in, write_failed_in};
 ghost use Rattle.sarif_streams.specs.Room.{HaveRoom};
 ghost use Rattle.sarif_log.specs.Beside.{IsMadeBy};
-ghost use Rattle.sarif_prepare.specs.Asked.{reporting_in, upkeep_in};
+ghost use Rattle.sarif_prepare.specs.Asked.{choice_in, reporting_in, upkeep_in};
 ghost use Rattle.sarif_merge.specs.FromReaders.{IsMergedFrom, IsMergedWith, IsPartlyWritten, IsRefused, IsRefusedWith, IsStopped};
 ghost use Rattle.sarif_merge.specs.Life.{no_life};
 ghost use Rattle.sarif_model.specs.Limits.{most_sources};
@@ -78,11 +78,12 @@ pub fn merge_readers<
     // Ok is returned only if all sources were read and have no errors; the result is the merge of these, with its
     // findings and with what is for later merges.
     ensures merged { IfOk result (λ made. IsMergedWith R.remaining readers.old readers.new
-        asked.now.options.now (reporting_in asked.now) (upkeep_in asked.now) made.0) }
+        asked.now.options.now (reporting_in asked.now) (choice_in asked.now) (upkeep_in asked.now)
+        made.0) }
     // And what was made of it.
     ensures told { IfOk result (λ made. IsMadeBy Tell.FnOnce tell made.0 (Ok made.1)) }
     ensures refused { IfErr result (IsRefusedWith R.remaining readers.old readers.new
-        asked.now.options.now (upkeep_in asked.now)) }
+        asked.now.options.now (choice_in asked.now) (upkeep_in asked.now)) }
     // A failed read is reported as such, and only one.
     ensures read_failed { RisesIf (read_failed_in result)
         (failures readers.old) (failures readers.new) }
@@ -137,6 +138,7 @@ pub fn merge_to<R: Read, W: Write, G: Gate + Sync, T: Threads + Wait + Sync>(
         options,
         reporting: None,
         upkeep: None,
+        choice: None,
     };
     let (merged, ()) = merge_readers(rt, alloc, readers, &asked, observer, tell_nothing)?;
     match write_out(out, merged.log.as_str().as_bytes()) {

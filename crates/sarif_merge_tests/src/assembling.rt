@@ -63,6 +63,7 @@ fn prepare_nothing<R: Threads + Sync>(
         options,
         reporting: None,
         upkeep: None,
+        choice: None,
     };
     let now = no_runs(alloc);
     let before = no_runs(alloc);

@@ -48,6 +48,7 @@ fn a_log_that_a_reader_gives(rt: HostRuntime) -> Result<(), Fail> {
         options: &options,
         reporting: None,
         upkeep: None,
+        choice: None,
     };
     assert_is_warning(&rt, &merge_texts(&rt, Texts::of(log.as_str()), &asked)?);
     Ok(())

@@ -3,7 +3,7 @@ use Rattle.std.specs.Prelude.{ℕ, List, [], ◌++◌, codes, decimal}
 use Rattle.sarif_model.specs.declared.merge_fault.Source.{Source}
 use Rattle.sarif_model.specs.declared.merge_fault.Source.TheVariants.{Log, Baseline, Suppress, Output, Known}
 use Rattle.sarif_model.specs.declared.merge_fault.At.{At}
-use Rattle.sarif_model.specs.declared.merge_fault.At.TheVariants.{Nowhere, Whole, Run, Single, Entry}
+use Rattle.sarif_model.specs.declared.merge_fault.At.TheVariants.{Nowhere, Whole, Run, Single, Entry, Place, Rule}
 
 abbrev pub source_text : Source → List ℕ
 source_text (Log number) = codes "log " ++ decimal number
@@ -20,3 +20,5 @@ at_text (Single source run number) =
     source_text source ++ (codes ", run " ++ (decimal run
     ++ (codes ", result " ++ decimal number)))
 at_text (Entry entry) = codes "suppressions, entry " ++ decimal entry
+at_text (Place number) = codes "--at " ++ decimal number
+at_text (Rule number) = codes "--rule " ++ decimal number

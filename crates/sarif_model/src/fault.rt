@@ -1,8 +1,8 @@
 //! The errors of an input.
 use thiserror::Error;
 
-/// The first thing that is wrong with a log, a run, a result or the suppression file. A member of a
-/// log may be absent or null where it isn't said that it must be there.
+/// The first thing that is wrong with a log, a run, a result, the suppression file or the choice of hits. A member of
+/// a log may be absent or null where it isn't said that it must be there.
 #[derive(Clone, Copy, Debug, PartialEq, Eq, Error)]
 pub enum Fault {
     /// The bytes are not UTF-8, not JSON, or nested deeper than `MAX_DEPTH` of `json_parts`.
@@ -86,4 +86,7 @@ pub enum Fault {
     /// `results` are missing or null.
     #[error("NotSuccessful")]
     NotSuccessful = 21,
+    /// A place or a rule of the hits to accept that fits none of the chosen hits.
+    #[error("NoHit")]
+    NoHit = 22,
 }

@@ -25,7 +25,7 @@ pub enum Source {
 /// Where an error is. Runs are numbered from 0 within their log or baseline, results within their run.
 #[derive(Clone, Copy, Debug, PartialEq, Eq)]
 pub enum At {
-    /// No input: memory ran out, or a thread could not be started.
+    /// Neither an input nor an argument: memory ran out, or a thread could not be started.
     Nowhere,
     /// All of a source.
     Whole(Source),
@@ -35,6 +35,10 @@ pub enum At {
     Single(Source, u32, u32),
     /// An entry of the suppression file, from 0.
     Entry(u32),
+    /// A place of the hits to accept, by its number among these places, from 0.
+    Place(usize),
+    /// A rule of the hits to accept, by its number among these rules, from 0.
+    Rule(usize),
 }
 
 /// Why a merge is rejected.
@@ -156,6 +160,8 @@ impl fmt::Display for At {
             At::Run(source, run) => write!(f, "{source}, run {run}"),
             At::Single(source, run, number) => write!(f, "{source}, run {run}, result {number}"),
             At::Entry(entry) => write!(f, "suppressions, entry {entry}"),
+            At::Place(number) => write!(f, "--at {number}"),
+            At::Rule(number) => write!(f, "--rule {number}"),
         }
     }
 }

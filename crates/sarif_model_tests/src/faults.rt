@@ -24,6 +24,8 @@ fn places_of_faults(rt: HostRuntime) -> Result<(), Fail> {
             "baseline 0, run 0, result 9: OutOfMemory",
         ),
         (At::Entry(2), "suppressions, entry 2: OutOfMemory"),
+        (At::Place(0), "--at 0: OutOfMemory"),
+        (At::Rule(10), "--rule 10: OutOfMemory"),
     ] {
         let fault = MergeFault { at, cause };
         assert_eq!(rt; format!(in rt.alloc(); "{fault}")?.as_str(), text);
@@ -59,6 +61,7 @@ fn causes_of_faults(rt: HostRuntime) -> Result<(), Fail> {
         (Cause::Of(Fault::EmptyMatch), "EmptyMatch", 2),
         (Cause::Of(Fault::NeedsToday), "NeedsToday", 2),
         (Cause::Of(Fault::NotSuccessful), "NotSuccessful", 2),
+        (Cause::Of(Fault::NoHit), "NoHit", 2),
         (Cause::TooLong, "TooLong", 2),
         (Cause::ReadFailed, "ReadFailed", 3),
         (Cause::WriteFailed, "WriteFailed", 3),

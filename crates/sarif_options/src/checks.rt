@@ -1,8 +1,8 @@
 //! What a merge requires of runs, and how it matches their results.
 ghost use Rattle.std.specs.Prelude.{◌≡◌, [], false};
-ghost use Rattle.sarif_match.specs.declared.version.MatchingVersion.TheVariants.{Two};
+ghost use Rattle.sarif_evidence.specs.declared.version.MatchingVersion.TheVariants.{Two};
 
-use sarif_match::MatchingVersion;
+use sarif_evidence::MatchingVersion;
 use sarif_model::{Sequence, Text};
 use std::alloc::Global;
 

@@ -105,7 +105,9 @@ accept_quiet before after hits b a =
     (both (quiet (codes ", run the same merge with ") refl)
     (both b (both (quiet (codes "--accept --reason TEXT --suppress-out FILE") refl) (both a
     (both (quiet (codes ", review FILE, and pass ") refl)
-    (both b (both (quiet (codes "--suppress FILE") refl) (both a (quiet (codes " from then on.") refl))))))))))
+    (both b (both (quiet (codes "--suppress FILE") refl) (both a
+    (both (quiet (codes " from then on; ") refl)
+    (both b (both (quiet (codes "--at PLACE") refl) (both a (quiet (codes " accepts one alone.") refl))))))))))))))
 
 -- ---- above the results
 

@@ -2,27 +2,27 @@
 use Rattle.std.proofs.Common.{◌≡◌, Bool, true, false, ℕ, List, Option, sym, ap, subst}
 use Rattle.sarif_entries.specs.File.{File}
 use Rattle.sarif_findings.specs.declared.reporting.Reporting.{Reporting}
-use Rattle.sarif_log.specs.Internal.Prepared.{IsPrepared}
+use Rattle.sarif_log.specs.Internal.Prepared.{IsPrepared, IsPreparedAs}
 use Rattle.sarif_log.specs.declared.prepared.Prepared.{Prepared}
 use Rattle.sarif_log.proofs.Uncopied.{prepared_all}
-use Rattle.sarif_match.specs.declared.version.MatchingVersion.{MatchingVersion}
+use Rattle.sarif_evidence.specs.declared.version.MatchingVersion.{MatchingVersion}
 use Rattle.sarif_once.specs.Once.{without_copies}
 use Rattle.sarif_options.specs.declared.checks.Checks.{Checks}
 use Rattle.sarif_options.specs.declared.policy.Policy.{Policy}
 use Rattle.sarif_runs.specs.Placed.{Placed}
 use Rattle.sarif_prepare.specs.By.{copies_if, counted_if, merge_by, runs_counted_if, written_if, IsPreparedBy}
-use Rattle.sarif_prepare.specs.Kept.{merge_of}
+use Rattle.sarif_prepare.specs.Chosen.{chosen_merge}
+use Rattle.sarif_choice.specs.declared.choice.Choosing.{Choosing}
 use Rattle.sarif_prepare.specs.Once.{IsPreparedOnce}
-use Rattle.sarif_log.specs.Internal.Prepared.{IsPreparedAs}
-use Rattle.sarif_log.specs.LogBy.{runs_without_results}
-use Rattle.sarif_runs.specs.Judging.{records_of, run_values}
+use Rattle.sarif_log.specs.LogBy.{limited_records, runs_without_results}
+use Rattle.sarif_runs.specs.Judging.{run_values}
 use Rattle.sarif_suppress.specs.Suppressing.{unused_of}
 
 -- by whether each result is counted
 abbrev IsPreparedIf : Bool → MatchingVersion → File → List Placed → List Placed → Option Reporting → Prepared → Type 0
 IsPreparedIf once version file now before asked prepared =
     IsPreparedAs (written_if once version file now before) (runs_counted_if once version file now before) (copies_if once version now before)
-    (runs_without_results (run_values now)) (unused_of file (records_of (counted_if once now))) asked prepared
+    (runs_without_results (run_values now)) (unused_of file (limited_records file (counted_if once now))) asked prepared
 
 pub counted_all : (checks : Checks) (file : File) (now before : List Placed) (asked : Option Reporting) → checks.once ≡ false → (prepared : Prepared)
     → IsPrepared checks.matching file now before asked prepared → IsPreparedBy checks file now before asked prepared
@@ -34,12 +34,14 @@ pub counted_once : (checks : Checks) (file : File) (now before : List Placed) (a
 counted_once checks file now before asked one prepared h =
     subst (λ once. IsPreparedIf once checks.matching file now before asked prepared) (sym one) h
 
-pub merge_all : (checks : Checks) (file : File) (bytes : Option (List ℕ)) (policy : Policy) (now before : List Placed) → checks.once ≡ false
-    → merge_of checks.matching file bytes policy now before ≡ merge_by checks file bytes policy now before
-merge_all checks file bytes policy now before all =
-    sym (ap (λ once. merge_of checks.matching file bytes policy (counted_if once now) (counted_if once before)) all)
+pub merge_all : (checks : Checks) (file : File) (bytes : Option (List ℕ)) (policy : Policy) (choice : Option Choosing) (now before : List Placed)
+    → checks.once ≡ false → chosen_merge checks.matching file bytes policy choice now before ≡ merge_by checks file bytes policy choice now before
+merge_all checks file bytes policy choice now before all =
+    sym (ap (λ once. chosen_merge checks.matching file bytes policy choice (counted_if once now) (counted_if once before)) all)
 
-pub merge_once : (checks : Checks) (file : File) (bytes : Option (List ℕ)) (policy : Policy) (now before : List Placed) → checks.once ≡ true
-    → merge_of checks.matching file bytes policy (without_copies now) (without_copies before) ≡ merge_by checks file bytes policy now before
-merge_once checks file bytes policy now before one =
-    sym (ap (λ once. merge_of checks.matching file bytes policy (counted_if once now) (counted_if once before)) one)
+pub merge_once : (checks : Checks) (file : File) (bytes : Option (List ℕ)) (policy : Policy) (choice : Option Choosing) (now before : List Placed)
+    → checks.once ≡ true
+    → chosen_merge checks.matching file bytes policy choice (without_copies now) (without_copies before)
+    ≡ merge_by checks file bytes policy choice now before
+merge_once checks file bytes policy choice now before one =
+    sym (ap (λ once. chosen_merge checks.matching file bytes policy choice (counted_if once now) (counted_if once before)) one)

@@ -1,12 +1,13 @@
 -- The drafts of findings and of copies are those of all results.
-use Rattle.std.proofs.Common.{◌≡◌, ◌≤◌, ◌+◌, suc, Bool, true, false, List, [], ◌∷◌, ◌++◌, map, length, Option, Some, None, refl, sym, ap, ◌∙◌, arith}
+use Rattle.std.proofs.Common.{◌≡◌, ◌≤◌, ◌+◌, suc, Bool, true, false, List, [], ◌∷◌, ◌++◌, map, length, Option, Some, None, refl, sym, ap, ◌∙◌, subst, arith}
 use Rattle.std.proofs.lemmas.List.{length-map, map-append}
 use Rattle.std.specs.List.{AllByRecursion, flat_map}
 use Rattle.serde_json.specs.Data.{Data}
 use Rattle.sarif_copies.specs.Copies.{copies_of}
 use Rattle.sarif_entries.specs.File.{File}
 use Rattle.sarif_log.specs.Internal.Texts.{present_results}
-use Rattle.sarif_log.specs.LogBy.{listing_of}
+use Rattle.sarif_log.specs.LogBy.{limited_records, listing_of}
+use Rattle.sarif_log.proofs.Limits.{all_spent_long}
 use Rattle.sarif_log.proofs.Sides.{drafts_long, records_present, results_long}
 use Rattle.sarif_model.specs.declared.record.Record.{Record}
 use Rattle.sarif_model.specs.Run.{results_of, results_total}
@@ -15,15 +16,16 @@ use Rattle.sarif_once.proofs.Items.{all_items_left, each_left, outcomes_total}
 use Rattle.sarif_once.proofs.Faults.{none_faulty}
 use Rattle.sarif_once.proofs.Parts.{sources_left}
 use Rattle.sarif_once.proofs.Marks.{findings_left, marked_each, marks_long, records_are}
+use Rattle.sarif_once.proofs.Spread.{spread_found}
 use Rattle.sarif_read.specs.Unmarked.{unmarked}
 use Rattle.sarif_read.proofs.Only.{results_without}
-use Rattle.sarif_results.specs.Drafts.{applied_of, draft_by, drafts_by, members_in, unapplied, Listing}
+use Rattle.sarif_results.specs.Drafts.{applied_of, draft_by, drafts_by, members_in, unapplied}
 use Rattle.sarif_results.specs.Internal.Outcomes.{all_outcomes}
 use Rattle.sarif_results.specs.declared.draft.Draft.{Draft}
 use Rattle.sarif_results.specs.declared.outcome.Outcome.{Outcome}
 use Rattle.sarif_results.proofs.JudgedCounts.{records_of_logs}
 use Rattle.sarif_results.proofs.OutcomeItems.{all_items}
-use Rattle.sarif_suppress.specs.declared.suppressions.Applied.{Applied}
+use Rattle.sarif_suppress.specs.Limited.{all_spent, limited}
 use Rattle.sarif_runs.specs.declared.item.Item.{Item}
 use Rattle.sarif_runs.specs.declared.item.Item.TheVariants.{Sound, Bad, Skipped}
 use Rattle.sarif_runs.specs.declared.spots.Spot.{Spot}
@@ -34,21 +36,16 @@ use Rattle.sarif_prepare.specs.Internal.Apart.{copy_drafts, current_drafts}
 use Rattle.sarif_prepare.specs.Internal.Baselines.{baseline_drafts, spots_with_record}
 use Rattle.sarif_prepare.specs.Internal.Halves.{drafts_in, with_draft}
 use Rattle.sarif_prepare.specs.Internal.Leftover.{found_at}
+use Rattle.sarif_prepare.specs.Internal.Limiting.{drafts_of, AreChanges, AreDraftsOf}
+use Rattle.sarif_prepare.specs.Once.{findings_only, limited_once, spent_once}
+use Rattle.sarif_prepare.specs.declared.changes.Changes.{Changes}
+use Rattle.sarif_prepare.proofs.Limits.{changes_made, drafts_left, drafts_unmarked, each_long, once_left, once_long}
 use Rattle.sarif_prepare.specs.Internal.Telling.{own_results}
 use Rattle.sarif_prepare.proofs.BaselineSpots.{all_long, found_at_pairs, pairs_at_spots, results_at, results_with}
 use Rattle.sarif_prepare.proofs.FoundDrafts.{current_drafts as drafts_found}
 use Rattle.sarif_prepare.proofs.ToldRuns.{pairs_of_all}
 
 -- ---- results of logs
-
-pub drafts_unmarked : (listed : Listing) (applied : Record → Applied) (ms : List Bool) (rs : List Record) (ds : List Data) → length rs ≡ length ds
-    → drafts_by listed applied (unmarked ms rs) (unmarked ms ds) ≡ unmarked ms (drafts_by listed applied rs ds)
-drafts_unmarked listed applied [] rs ds same = refl
-drafts_unmarked listed applied (m ∷ ms) [] ds same = refl
-drafts_unmarked listed applied (m ∷ ms) (r ∷ rs) [] same = absurd (omega (arith, same))
-drafts_unmarked listed applied (true ∷ ms) (r ∷ rs) (d ∷ ds) same = drafts_unmarked listed applied ms rs ds (omega (arith, same))
-drafts_unmarked listed applied (false ∷ ms) (r ∷ rs) (d ∷ ds) same =
-    ap (λ xs. draft_by listed applied r (members_in d) ∷ xs) (drafts_unmarked listed applied ms rs ds (omega (arith, same)))
 
 drafts_few : (os : List Outcome) → length (drafts_in os) ≤ length os
 drafts_few [] = omega arith
@@ -114,27 +111,59 @@ module _ (file : File) (ps : List Placed) (sound : faults_of_runs ps ≡ []) (lo
       let marks = marked_each (records_of ps) in
       all_marked (flat_map items_of ps) (copies_of (records_of ps)) (omega (arith, items_total file ps, records, same)) (omega (arith, items_total file ps, records, marks))
 
-  pub copied_drafts : drafts_in (marked (copy_marks ps) (all_outcomes file ps)) ≡ marked (copies_of (records_of ps)) (current_drafts file ps)
+  pub results_found : flat_map results_of (run_values (without_copies ps)) ≡ unmarked (copies_of (records_of ps)) (flat_map results_of (run_values ps))
+  results_found = results_left ps ∙ ap (λ ms. unmarked ms (flat_map results_of (run_values ps))) marks_of_logs
+
+  -- as many results as records
+  pub as_many : length (flat_map results_of (run_values ps)) ≡ length (records_of ps)
+  as_many = results_long (run_values ps) ∙ sym (records_of_logs ps sound logs)
+
+  pub copied_drafts : drafts_in (marked (copy_marks ps) (all_outcomes file ps))
+      ≡ marked (copies_of (records_of ps)) (drafts_of file (records_of ps) (flat_map results_of (run_values ps)))
   copied_drafts =
+      let rs = records_of ps in
+      let ds = flat_map results_of (run_values ps) in
       let found = drafts_found file ps sound logs in
       let records = records_of_logs ps sound logs in
-      let results = results_long (run_values ps) in
-      let drafts = ap length found ∙ drafts_long (listing_of file) (applied_of file) (records_of ps) (flat_map results_of (run_values ps)) (records ∙ sym results) in
+      let drafts = ap length found ∙ drafts_long (listing_of file) (applied_of file) rs ds (sym as_many) in
       let outcomes = outcomes_total file ps in
       drafts_marked (copy_marks ps) (all_outcomes file ps) (drafts ∙ records ∙ sym outcomes)
       ∙ ap (marked (copy_marks ps)) found
-      ∙ ap (λ ms. marked ms (current_drafts file ps)) marks_of_logs
+      ∙ ap (λ ms. marked ms (drafts_of file rs ds)) marks_of_logs
 
   -- the drafts of the findings
-  pub found_drafts : current_drafts file (without_copies ps) ≡ unmarked (copies_of (records_of ps)) (current_drafts file ps)
+  pub found_drafts : drafts_of file (limited_records file (without_copies ps)) (flat_map results_of (run_values (without_copies ps)))
+      ≡ unmarked (copies_of (records_of ps)) (current_drafts file ps)
   found_drafts =
-      let records = records_of_logs ps sound logs in
-      let results = results_long (run_values ps) in
-      ap (λ rs. drafts_by (listing_of file) (applied_of file) rs (flat_map results_of (run_values (without_copies ps)))) (findings_left ps)
-      ∙ ap (drafts_by (listing_of file) (applied_of file) (unmarked (copies_of (records_of ps)) (records_of ps)))
-      (results_left ps ∙ ap (λ ms. unmarked ms (flat_map results_of (run_values ps))) marks_of_logs)
-      ∙ drafts_unmarked (listing_of file) (applied_of file) (copies_of (records_of ps)) (records_of ps) (flat_map results_of (run_values ps))
-      (records ∙ sym results)
+      let rs = records_of ps in
+      let ms = copies_of rs in
+      let ds = flat_map results_of (run_values ps) in
+      let many = each_long rs (spent_once file rs) (once_long file rs) in
+      ap (λ qs. drafts_of file (limited file qs) (flat_map results_of (run_values (without_copies ps)))) (findings_left ps)
+      ∙ ap (λ qs. drafts_of file qs (flat_map results_of (run_values (without_copies ps)))) (sym (once_left file rs))
+      ∙ ap (drafts_of file (unmarked ms (limited_once file rs))) results_found
+      ∙ drafts_unmarked (listing_of file) (applied_of file) ms (limited_once file rs) ds (many ∙ sym as_many)
+
+  -- what changes for the findings is what changes where they alone are counted
+  pub found_changes : (changes : Changes) (again : List (Option Draft))
+      → changes.spent.items ≡ all_spent file (findings_only (records_of ps))
+      → changes.drafts.items ≡ unmarked (copies_of (records_of ps)) again
+      → AreDraftsOf file (records_of ps) (spent_once file (records_of ps)) (flat_map results_of (run_values ps)) again
+      → AreChanges file (records_of (without_copies ps)) (all_spent file (records_of (without_copies ps)))
+      (flat_map results_of (run_values (without_copies ps))) changes
+  found_changes changes again spent_is drafts_are is =
+      let rs = records_of ps in
+      let ms = copies_of rs in
+      let ds = flat_map results_of (run_values ps) in
+      let found = findings_only rs in
+      let lists = spread_found [] rs (all_spent file found) (all_spent_long file found) in
+      let left : AreDraftsOf file found (all_spent file found) (unmarked ms ds) changes.drafts.items =
+      subst (AreDraftsOf file found (all_spent file found) (unmarked ms ds)) (sym drafts_are)
+      (subst (λ ls. AreDraftsOf file found ls (unmarked ms ds) (unmarked ms again)) lists
+      (drafts_left file ms rs (spent_once file rs) ds again (once_long file rs) as_many is)) in
+      subst (λ qs. AreChanges file qs (all_spent file qs) (flat_map results_of (run_values (without_copies ps))) changes) (sym (findings_left ps))
+      (subst (λ es. AreChanges file found (all_spent file found) es changes) (sym results_found)
+      (changes_made file found (all_spent file found) (unmarked ms ds) changes spent_is left (all_spent_long file found)))
 
 -- ---- results of baselines
 
@@ -188,7 +217,7 @@ seconds (run ∷ runs) =
     ∙ ap (λ ds. ds ++ map (λ p. p.1) (flat_map own_results runs)) (results_with run (results_of run))
     ∙ ap (λ ds. results_of run ++ ds) (seconds runs)
 
-all_found : (ps : List Placed) → map (found_at ps) (spots_from 0 ps) ≡ flat_map results_of (run_values ps)
+pub all_found : (ps : List Placed) → map (found_at ps) (spots_from 0 ps) ≡ flat_map results_of (run_values ps)
 all_found ps =
     sym (results_at ps (spots_from 0 ps)) ∙ ap (map (λ p. p.1)) (pairs_of_all ps) ∙ seconds (run_values ps)
 

@@ -1,26 +1,27 @@
 -- An expired entry matches no result.
-use Rattle.std.proofs.Common.{◌≡◌, Bool, true, false, List, [], ◌∷◌, refl, sym, ap}
-use Rattle.std.specs.Prelude.{not, ◌&&◌, count_by}
+use Rattle.std.proofs.Common.{◌≡◌, Bool, true, false, List, [], ◌∷◌, refl, sym, ap, ◌∙◌}
+use Rattle.std.specs.Prelude.{not, ◌&&◌, ◌||◌, count_by}
 use Rattle.std.specs.List.{list_any}
 use Rattle.sarif_entries.specs.File.{File}
-use Rattle.sarif_entries.specs.Matching.{hold, is_expired}
+use Rattle.sarif_entries.specs.Matching.{hold, is_expired, is_used_up}
 use Rattle.sarif_log.specs.LogBy.{expired_of}
 use Rattle.sarif_model.specs.declared.record.Record.{Record}
-
-none_match : (meets : Record → Bool) (rs : List Record) → list_any (λ r. not true && meets r) rs ≡ false
-none_match meets [] = refl
-none_match meets (r ∷ rs) = none_match meets rs
 
 never : (b : Bool) → b && false ≡ false
 never true = refl
 never false = refl
 
+none_match : (left meets : Record → Bool) (rs : List Record) → list_any (λ r. left r && (not true && meets r)) rs ≡ false
+none_match left meets [] = refl
+none_match left meets (r ∷ rs) = ap (λ b. b || list_any (λ q. left q && (not true && meets q)) rs) (never (left r)) ∙ none_match left meets rs
+
 -- that it is unused follows if it is expired
-unused_too : (expired : Bool) (meets : Record → Bool) (rs : List Record)
-    → not (list_any (λ r. not expired && meets r) rs) && expired ≡ expired
-unused_too true meets rs = ap (λ any. not any && true) (none_match meets rs)
-unused_too false meets rs = never (not (list_any (λ r. not false && meets r) rs))
+unused_too : (expired : Bool) (left meets : Record → Bool) (rs : List Record)
+    → not (list_any (λ r. left r && (not expired && meets r)) rs) && expired ≡ expired
+unused_too true left meets rs = ap (λ any. not any && true) (none_match left meets rs)
+unused_too false left meets rs = never (not (list_any (λ r. left r && (not false && meets r)) rs))
 
 -- so these are all that are expired
 pub all_expired : (file : File) (rs : List Record) → count_by (λ e. is_expired file.today e) file.entries ≡ expired_of file rs
-all_expired file rs = sym (λ i. count_by (λ e. unused_too (is_expired file.today e) (hold e.conditions) rs i) file.entries)
+all_expired file rs =
+    sym (λ i. count_by (λ e. unused_too (is_expired file.today e) (λ r. not (is_used_up e.limit r)) (hold e.conditions) rs i) file.entries)

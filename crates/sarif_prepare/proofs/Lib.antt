@@ -6,8 +6,13 @@ pub mod Expired
 pub mod FoundDrafts
 pub mod KeptSides
 pub mod LeftTexts
+pub mod LimitedLogs
+pub mod Limits
 pub mod ListedTold
 pub mod Marked
+pub mod MatchedRecords
+pub mod MarkedRuns
+pub mod MarkedSides
 pub mod ResultsAlike
 pub mod RunPartsOf
 pub mod RunsAlike

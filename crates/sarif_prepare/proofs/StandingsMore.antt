@@ -10,8 +10,8 @@ use Rattle.sarif_share.specs.Sharing.{AreJoined, GivesInParts, GivesPart, GivesP
 use Rattle.std.proofs.Math.Seq.{drop-cons}
 use Rattle.sarif_known.specs.declared.standing.Standing.{Standing}
 use Rattle.sarif_model.specs.declared.record.Record.{Record}
-use Rattle.sarif_match.specs.declared.version.MatchingVersion.{MatchingVersion}
-use Rattle.sarif_match.specs.Evidence.{state_in}
+use Rattle.sarif_evidence.specs.declared.version.MatchingVersion.{MatchingVersion}
+use Rattle.sarif_evidence.specs.Evidence.{state_in}
 use Rattle.sarif_known.specs.Standing.{standing_of}
 use Rattle.sarif_log.specs.LogBy.{partner_in, states_from}
 use Rattle.sarif_prepare.specs.Kept.{standings_from}

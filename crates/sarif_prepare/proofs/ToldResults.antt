@@ -58,7 +58,7 @@ object_told reporting later run level state list ms same =
     (same_told reporting later run x (object ms) level state same (alike level state list ms))
 
 -- a result of a run, and the same as it is written in a run that is alike
-draft_told : (reporting : Reporting) (later run : Data) (listed : Listing) (applied : Record → Applied) (r : Record) (state : State) (d : Data)
+pub draft_told : (reporting : Reporting) (later run : Data) (listed : Listing) (applied : Record → Applied) (r : Record) (state : State) (d : Data)
     → AreAlike later run → IsObject d
     → told_as reporting run d (draft_by listed applied r (members_in d)) (Some state) ≡ finding_if reporting later (written listed r state d)
 draft_told reporting later run listed applied r state null same is = absurd is

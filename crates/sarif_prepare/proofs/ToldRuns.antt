@@ -53,13 +53,13 @@ kept name None ms no_results no_guid = beside name ms no_results no_guid
 kept name (Some ds) ms no_results no_guid =
     get_member-put_other name (codes "results") (array ds) (bare ms) no_results ∙ beside name ms no_results no_guid
 
-alike : (results : Option Items) (ms : Members) → AreAlike (object (with_results results (bare ms))) (object ms)
+pub alike : (results : Option Items) (ms : Members) → AreAlike (object (with_results results (bare ms))) (object ms)
 alike results ms = record {
   tool = kept (codes "tool") results ms (λ e. cc) (λ e. cc);
   artifacts = kept (codes "artifacts") results ms (λ e. cc) (λ e. cc);
 }
 
-no_results : (ms : Members) → get_member (codes "results") (bare ms) ≡ None
+pub no_results : (ms : Members) → get_member (codes "results") (bare ms) ≡ None
 no_results ms = still_out (codes "results") (codes "baselineGuid") (without (codes "results") ms) (taken_out (codes "results") ms)
 
 -- the findings of a run with these results
@@ -131,7 +131,7 @@ seam reporting ps qs n ds ss same =
     ∙ ap (λ xs. told_each reporting ps (take n ds) (take n ss) ++ told_each reporting xs (drop n ds) (drop n ss))
     (ap (λ m. drop m (ps ++ qs)) same ∙ drop-append_seam ps qs)
 
-with_long : (run : Data) (ds : List Data) → length ds ≡ length (with_run run ds)
+pub with_long : (run : Data) (ds : List Data) → length ds ≡ length (with_run run ds)
 with_long run ds = sym (length-map ds (λ d. (run, d)))
 
 pub runs_told : (reporting : Reporting) (listed : Listing) (applied : Record → Applied) (rs : List Record) (ss : List State) (runs : List Data)

@@ -5,8 +5,8 @@ use Rattle.std.proofs.lemmas.List.Concat.{flat_map-append}
 use Rattle.std.specs.Prelude.{flat_map}
 use Rattle.serde_json.specs.Data.{Data}
 use Rattle.sarif_model.specs.declared.kinds.State.TheVariants.{Absent}
-use Rattle.sarif_model.specs.Run.{results_of}
-use Rattle.sarif_match.specs.declared.version.MatchingVersion.{MatchingVersion}
+use Rattle.sarif_model.specs.Run.{results_of, present}
+use Rattle.sarif_evidence.specs.declared.version.MatchingVersion.{MatchingVersion}
 use Rattle.sarif_match.specs.Partners.{partners_in}
 use Rattle.sarif_entries.specs.File.{File}
 use Rattle.sarif_runs.specs.Judging.{records_of, run_values}
@@ -17,16 +17,17 @@ use Rattle.sarif_findings.specs.declared.reporting.Reporting.{Reporting}
 use Rattle.sarif_findings.specs.Reported.{reported_in}
 use Rattle.sarif_results.specs.Drafts.{applied_of, drafts_by}
 use Rattle.sarif_log.specs.Internal.Texts.{present_results}
-use Rattle.sarif_model.specs.Run.{present}
 use Rattle.sarif_prepare.specs.declared.baselines.Baselines.{Baselines}
 use Rattle.sarif_prepare.specs.declared.halves.Half.{Half}
-use Rattle.sarif_prepare.specs.declared.preparing.Paired.{Paired}
+use Rattle.sarif_prepare.specs.declared.pairing.Paired.{Paired}
 use Rattle.sarif_prepare.specs.Internal.Baselines.{baseline_drafts}
-use Rattle.sarif_log.specs.LogBy.{current_runs, leftover_runs, listing_of, runs_by, states_of, taken_of}
+use Rattle.sarif_log.specs.LogBy.{current_runs, leftover_runs, limited_records, listing_of, runs_by, states_of, taken_of}
 use Rattle.sarif_prepare.specs.Internal.Telling.{own_results, pair_at, present_in, told_each}
 use Rattle.sarif_prepare.specs.Internal.Together.{AreTogether, IsPaired}
 use Rattle.sarif_log.specs.Told.{if_asked, told_of}
+use Rattle.sarif_log.proofs.Limits.{limited_long}
 use Rattle.sarif_log.proofs.Sides.{states_long, taken_long}
+use Rattle.sarif_prepare.proofs.MatchedRecords.{limited_total, matched_records}
 use Rattle.sarif_prepare.proofs.ToldRuns.{not_taken-map, pairs_of_all, runs_told, untaken_told}
 use Rattle.sarif_prepare.proofs.WrittenSides.{baseline_long}
 
@@ -38,20 +39,20 @@ pairs_count (run ∷ runs) =
     ∙ ap (λ n. length (present (results_of run)) + n) (pairs_count runs)
     ∙ sym (length-append (present (results_of run)) (present_results runs))
 
-current_told : (v : MatchingVersion) (reporting : Reporting) (file : File) (now before : List Placed) (c : Half) (b : Baselines) (p : Paired)
+pub current_told : (v : MatchingVersion) (reporting : Reporting) (file : File) (now before : List Placed) (c : Half) (b : Baselines) (p : Paired)
     → AreTogether file now before c b → IsPaired v c b p
     → told_each reporting (map (pair_at now) (spots_from 0 now)) c.drafts.items p.states.items ≡ flat_map (reported_in reporting) (current_runs v file now before)
 current_told v reporting file now before c b p h q =
     let cs = records_of now in
     let bs = records_of before in
     let states =
-    q.states ∙ ap (λ rs. map Some (states_of v rs b.records.items)) h.is_current.records ∙ ap (λ rs. map Some (states_of v cs rs)) h.are_baselines.records in
+    q.states ∙ ap (λ rs. map Some (states_of v rs b.records.items)) (matched_records file now c h.is_current) ∙ ap (λ rs. map Some (states_of v cs rs)) h.are_baselines.records in
     ap (λ ps. told_each reporting ps c.drafts.items p.states.items) (pairs_of_all now)
     ∙ ap (λ ds. told_each reporting (flat_map own_results (run_values now)) ds p.states.items) h.is_current.drafts
     ∙ ap (told_each reporting (flat_map own_results (run_values now))
-    (drafts_by (listing_of file) (applied_of file) cs (flat_map results_of (run_values now)))) states
-    ∙ runs_told reporting (listing_of file) (applied_of file) cs (states_of v cs bs) (run_values now) h.current_are_runs h.current_records
-    (states_long v bs (partners_in v cs bs) 0 cs)
+    (drafts_by (listing_of file) (applied_of file) (limited_records file now) (flat_map results_of (run_values now)))) states
+    ∙ runs_told reporting (listing_of file) (applied_of file) (limited_records file now) (states_of v cs bs) (run_values now) h.current_are_runs
+    (limited_total file now h.current_records) (states_long v bs (partners_in v cs bs) 0 cs ∙ sym (limited_long file cs))
 
 left_told : (v : MatchingVersion) (reporting : Reporting) (file : File) (now before : List Placed) (c : Half) (b : Baselines) (p : Paired)
     → AreTogether file now before c b → IsPaired v c b p
@@ -60,7 +61,7 @@ left_told : (v : MatchingVersion) (reporting : Reporting) (file : File) (now bef
 left_told v reporting file now before c b p h q =
     let taken = taken_of v (records_of now) (records_of before) in
     let is : p.taken.items ≡ taken =
-    q.taken ∙ ap (λ rs. taken_of v rs b.records.items) h.is_current.records ∙ ap (taken_of v (records_of now)) h.are_baselines.records in
+    q.taken ∙ ap (λ rs. taken_of v rs b.records.items) (matched_records file now c h.is_current) ∙ ap (taken_of v (records_of now)) h.are_baselines.records in
     let pairs = flat_map present_in (run_values before) in
     let drafts = baseline_drafts before in
     let long = taken_long v (records_of now) (records_of before) in

@@ -13,7 +13,7 @@ use Rattle.sarif_log.specs.Internal.Copied.{marks_of_left, masked, places_by}
 use Rattle.sarif_log.specs.Internal.Side.{IsSide}
 use Rattle.sarif_log.specs.Internal.Texts.{left_texts, own_count, present_results, runs_texts, tallied}
 use Rattle.sarif_log.specs.Internal.Written.{AreWrittenWith}
-use Rattle.sarif_log.specs.LogBy.{current_runs, leftover_runs, listing_of, runs_without_results, states_of, taken_of}
+use Rattle.sarif_log.specs.LogBy.{current_runs, leftover_runs, limited_records, listing_of, runs_without_results, states_of, taken_of}
 use Rattle.sarif_log.specs.MergedRuns.{absent_runs, merged_runs}
 use Rattle.sarif_log.specs.declared.merged_text.Side.{Side}
 use Rattle.sarif_log.specs.Told.{told_of}
@@ -22,10 +22,11 @@ use Rattle.sarif_log.specs.declared.prepared.Prepared.{Prepared}
 use Rattle.sarif_log.proofs.RunCounts.{left_count as left_counted, runs_count}
 use Rattle.sarif_log.proofs.RunTexts.{runs_written}
 use Rattle.sarif_log.proofs.Sides.{drafts_long, few_present, own_total, records_present, results_long, runs_long, states_long, taken_long}
-use Rattle.sarif_match.specs.declared.version.MatchingVersion.{MatchingVersion}
+use Rattle.sarif_evidence.specs.declared.version.MatchingVersion.{MatchingVersion}
 use Rattle.sarif_match.specs.Partners.{partners_in}
 use Rattle.sarif_model.specs.declared.kinds.Level.{Level}
 use Rattle.sarif_model.specs.declared.kinds.State.{State}
+use Rattle.sarif_model.specs.declared.record.Record.{Record}
 use Rattle.sarif_model.specs.declared.kinds.State.TheVariants.{Absent, New}
 use Rattle.sarif_model.specs.Limits.{most_results}
 use Rattle.sarif_model.specs.Run.{results_of}
@@ -49,7 +50,7 @@ use Rattle.sarif_prepare.specs.Internal.Woven.{flags_of, AreCurrentWoven, AreLef
 use Rattle.sarif_prepare.specs.Once.{copies_written, current_once, findings_only, leftover_once, marks_of_absent, marks_of_runs, runs_counted, runs_once, IsPreparedOnce}
 use Rattle.sarif_prepare.specs.declared.baselines.Baselines.{Baselines}
 use Rattle.sarif_prepare.specs.declared.halves.Half.{Half}
-use Rattle.sarif_prepare.specs.declared.preparing.Paired.{Paired}
+use Rattle.sarif_prepare.specs.declared.pairing.Paired.{Paired}
 use Rattle.sarif_prepare.specs.declared.woven.CurrentWoven.{CurrentWoven}
 use Rattle.sarif_prepare.specs.declared.woven.LeftWoven.{LeftWoven}
 use Rattle.sarif_prepare.proofs.CopyDrafts.{found_before, found_drafts}
@@ -58,6 +59,11 @@ use Rattle.sarif_prepare.proofs.LeftTexts.{counts, left_total, left_written, lon
 use Rattle.sarif_once.proofs.WovenLists.{found_left}
 use Rattle.sarif_prepare.proofs.Untaken.{untaken_is}
 use Rattle.sarif_prepare.proofs.WrittenSides.{few_left}
+use Rattle.sarif_log.proofs.Limits.{limited_long}
+use Rattle.sarif_prepare.specs.Internal.Limiting.{drafts_of}
+use Rattle.sarif_prepare.specs.Once.{limited_once, spent_once}
+use Rattle.sarif_prepare.proofs.Limits.{each_long, once_long}
+use Rattle.sarif_prepare.proofs.MatchedRecords.{limited_total, matched_records}
 
 -- ---- the runs of both sides
 
@@ -84,10 +90,14 @@ whole_sides file current baseline j k =
 
 -- ---- numbers of results
 
+once_many : (file : File) (rs : List Record) → length (limited_once file rs) ≡ length rs
+once_many file rs = each_long rs (spent_once file rs) (once_long file rs)
+
 pub current_long : (file : File) (now before : List Placed) → AreWhole now before → length (current_drafts file now) ≡ length (records_of now)
 current_long file now before w =
-    drafts_long (listing_of file) (applied_of file) (records_of now) (flat_map results_of (run_values now))
-    (w.current_records ∙ sym (results_long (run_values now)))
+    drafts_long (listing_of file) (applied_of file) (limited_once file (records_of now)) (flat_map results_of (run_values now))
+    (once_many file (records_of now) ∙ w.current_records ∙ sym (results_long (run_values now)))
+    ∙ once_many file (records_of now)
 
 pub before_long : (now before : List Placed) → AreWhole now before → length (baseline_drafts before) ≡ length (records_of before)
 before_long now before w = drafts_long (λ _ own. own) unapplied (records_of before) (present_results (run_values before)) w.baseline_records
@@ -111,12 +121,13 @@ module _ (file : File) (now before : List Placed) (w : AreWhole now before) (xs 
   now_flags = ap length woven.copies ∙ marked_each (records_of now) ∙ sym (ap length woven.drafts ∙ current_long file now before w)
 
   pub now_texts : runs_texts side.runs.items side.drafts.items side.states.items
-      ≡ map compact_text (merged_runs (listing_of file) (records_of now) (spread New (numbers_of (records_of now)) xs) (run_values now))
+      ≡ map compact_text (merged_runs (listing_of file) (limited_once file (records_of now)) (spread New (numbers_of (records_of now)) xs) (run_values now))
   now_texts =
       ap (λ ds. runs_texts side.runs.items ds side.states.items) woven.drafts
       ∙ ap (runs_texts side.runs.items (current_drafts file now)) woven.states
-      ∙ runs_written (listing_of file) (applied_of file) (records_of now) (spread New (numbers_of (records_of now)) xs) side.runs.items (run_values now)
-      w.current_are_runs woven.parts w.current_records (spread_long New (records_of now) xs)
+      ∙ runs_written (listing_of file) (applied_of file) (limited_once file (records_of now)) (spread New (numbers_of (records_of now)) xs) side.runs.items
+      (run_values now) w.current_are_runs woven.parts (once_many file (records_of now) ∙ w.current_records)
+      (spread_long New (records_of now) xs ∙ sym (once_many file (records_of now)))
 
 module _ (now before : List Placed) (w : AreWhole now before) (taken : List Bool) (copies : List Bool) (side : Side)
     (woven : AreLeftWoven taken before copies side) where
@@ -181,10 +192,11 @@ module _ (v : MatchingVersion) (file : File) (now before : List Placed) (c : Hal
       ∙ ap (λ ms. tallied (unmarked ms side.drafts.items) (unmarked ms side.states.items) s l x) woven.copies
       ∙ ap (λ ds. tallied (unmarked (copies_of cs) ds) (unmarked (copies_of cs) side.states.items) s l x) woven.drafts
       ∙ ap (λ ds. tallied ds (unmarked (copies_of cs) side.states.items) s l x) (sym (found_drafts file now w.current_faultless w.current_sources))
-      ∙ ap (λ ss. tallied (current_drafts file tn) ss s l x)
+      ∙ ap (λ ss. tallied (drafts_of file (limited_records file tn) (flat_map results_of (run_values tn))) ss s l x)
       (ap (unmarked (copies_of cs)) woven.states ∙ unmarked_map Some (copies_of cs) (spread New (numbers_of cs) xs)
       ∙ ap (map Some) (spread_found New cs xs (long_xs ∙ ap length (findings_left now))))
-      ∙ runs_count (listing_of file) (applied_of file) (records_of tn) xs (run_values tn) s l x t.current_are_runs t.current_records long_xs
+      ∙ runs_count (listing_of file) (applied_of file) (limited_records file tn) xs (run_values tn) s l x t.current_are_runs
+      (limited_total file tn t.current_records) (long_xs ∙ sym (limited_long file (records_of tn)))
 
   before_counts : (copies : List Bool) (side : Side) (s : State) (l : Level) (x : Bool)
       → AreLeftWoven (taken_of v (records_of (without_copies now)) (records_of (without_copies before))) before copies side
@@ -228,11 +240,12 @@ module _ (v : MatchingVersion) (file : File) (now before : List Placed) (c : Hal
   -- what matching gives the findings
   pub states_given : (paired : Paired) → IsPaired v c b paired
       → paired.states.items ≡ map Some (states_of v (records_of (without_copies now)) (records_of (without_copies before)))
-  states_given paired q = q.states ∙ ap₂ (λ rs qs. map Some (states_of v rs qs)) t.is_current.records t.are_baselines.records
+  states_given paired q =
+      q.states ∙ ap₂ (λ rs qs. map Some (states_of v rs qs)) (matched_records file (without_copies now) c t.is_current) t.are_baselines.records
 
   pub taken_given : (paired : Paired) → IsPaired v c b paired
       → paired.taken.items ≡ taken_of v (records_of (without_copies now)) (records_of (without_copies before))
-  taken_given paired q = q.taken ∙ ap₂ (taken_of v) t.is_current.records t.are_baselines.records
+  taken_given paired q = q.taken ∙ ap₂ (taken_of v) (matched_records file (without_copies now) c t.is_current) t.are_baselines.records
 
   -- the log, and what it counts
   pub woven_written : (flags : CopyFlags) (side other : Side)
@@ -246,7 +259,7 @@ module _ (v : MatchingVersion) (file : File) (now before : List Placed) (c : Hal
       let taken = taken_of v (records_of tn) (records_of tb) in
       let texts_here : runs_texts side.runs.items side.drafts.items side.states.items ≡ map compact_text (current_once v file now before) =
       now_texts file now before w xs flags.current.items side here
-      ∙ ap (λ ss. map compact_text (merged_runs (listing_of file) (records_of now) (spread New (numbers_of (records_of now)) ss) (run_values now))) states_same in
+      ∙ ap (λ ss. map compact_text (merged_runs (listing_of file) (limited_once file (records_of now)) (spread New (numbers_of (records_of now)) ss) (run_values now))) states_same in
       let texts_there : left_texts other.runs.items other.drafts.items other.states.items ≡ map compact_text (leftover_once v now before) =
       before_texts now before w taken flags.baseline.items other there
       ∙ ap (λ ts. map compact_text (absent_runs (records_of before) (spread false (numbers_of (records_of before)) ts) (run_values before))) taken_same in
@@ -286,7 +299,7 @@ module _ (v : MatchingVersion) (file : File) (now before : List Placed) (c : Hal
       → AreCurrentWoven file (states_of v (records_of (without_copies now)) (records_of (without_copies before))) now logs.copies.items logs.side.side
       → AreLeftWoven (taken_of v (records_of (without_copies now)) (records_of (without_copies before))) before other.copies.items other.left.side
       → made.current ≡ logs.side.side → made.baseline ≡ other.left.side → made.copies ≡ Some (flags_of logs.copies other.copies)
-      → made.without ≡ runs_without_results (run_values now) → made.unused ≡ unused_of file (records_of (without_copies now))
+      → made.without ≡ runs_without_results (run_values now) → made.unused ≡ unused_of file (limited_records file (without_copies now))
       → made.findings.items ≡ told_of asked (runs_counted v file now before) → IsPreparedOnce v file now before asked made
   woven_prepared logs other made asked here there current baseline copies without unused told =
       let flags = flags_of logs.copies other.copies in

@@ -7,7 +7,7 @@ use Rattle.sarif_model.specs.declared.kinds.Level.{Level}
 use Rattle.sarif_model.specs.declared.kinds.State.{State}
 use Rattle.sarif_model.specs.declared.kinds.State.TheVariants.{Absent}
 use Rattle.sarif_model.specs.Run.{results_of}
-use Rattle.sarif_match.specs.declared.version.MatchingVersion.{MatchingVersion}
+use Rattle.sarif_evidence.specs.declared.version.MatchingVersion.{MatchingVersion}
 use Rattle.sarif_match.specs.Partners.{partners_in}
 use Rattle.sarif_entries.specs.File.{File}
 use Rattle.sarif_counts.specs.CountOf.{count_of}
@@ -25,13 +25,16 @@ use Rattle.sarif_prepare.specs.declared.baselines.Baselines.{Baselines}
 use Rattle.sarif_prepare.specs.declared.halves.Half.{Half}
 use Rattle.sarif_results.specs.declared.judged.Judged.{Judged}
 use Rattle.sarif_prepare.specs.Internal.Baselines.{baseline_drafts, AreBaselines, IsLeft}
-use Rattle.sarif_prepare.specs.Internal.Halves.{IsCurrent}
+use Rattle.sarif_prepare.specs.Internal.Halves.{IsFound}
 use Rattle.sarif_results.specs.Internal.Judged.{placed_in, IsJudged}
-use Rattle.sarif_log.specs.LogBy.{current_runs, leftover_runs, listing_of, runs_by, states_of, taken_of}
-use Rattle.sarif_prepare.specs.Internal.Together.{AreTogether}
+use Rattle.sarif_log.specs.LogBy.{current_runs, leftover_runs, limited_records, listing_of, runs_by, states_of, taken_of}
+use Rattle.sarif_prepare.specs.Internal.Together.{AreFound, AreTogether}
 use Rattle.sarif_log.specs.Internal.Written.{AreWritten}
 use Rattle.sarif_results.proofs.JudgedCounts.{records_of_logs}
 use Rattle.sarif_prepare.proofs.LeftTexts.{counts, left_total, left_written, long}
+use Rattle.sarif_log.proofs.Limits.{limited_long}
+use Rattle.sarif_prepare.specs.Internal.Limiting.{unspent}
+use Rattle.sarif_prepare.proofs.MatchedRecords.{limited_results, limited_total, matched_records}
 use Rattle.sarif_log.proofs.Sides.{drafts_long, few_present, own_total, results_long, states_long, taken_long}
 
 -- ---- the runs of logs
@@ -40,21 +43,22 @@ pub current_long : (file : File) (now before : List Placed) (c : Half) (b : Base
     → length c.drafts.items ≡ length (records_of now)
 current_long file now before c b h =
     ap length h.is_current.drafts
-    ∙ drafts_long (listing_of file) (applied_of file) (records_of now) (flat_map results_of (run_values now))
-    (h.current_records ∙ sym (results_long (run_values now)))
+    ∙ drafts_long (listing_of file) (applied_of file) (limited_records file now) (flat_map results_of (run_values now))
+    (limited_results file now h.current_records)
+    ∙ limited_long file (records_of now)
 
 pub current_side : (v : MatchingVersion) (file : File) (now before : List Placed) (c : Half) (b : Baselines) (s : Side) → AreTogether file now before c b
     → ArePartsOf own_count s.runs.items (run_values now) → AllByRecursion IsWholeRun s.runs.items
-    → s.drafts.items ≡ c.drafts.items → s.states.items ≡ map Some (states_of v c.records.items b.records.items)
+    → s.drafts.items ≡ c.drafts.items → s.states.items ≡ map Some (states_of v (map unspent c.records.items) b.records.items)
     → IsSide s
 current_side v file now before c b s h parts whole drafts states =
     let many = current_long file now before c b h in record {
       whole = whole;
       drafts = ap length drafts ∙ many ∙ h.current_records ∙ sym (own_total s.runs.items (run_values now) parts);
       states =
-          ap length states ∙ length-map (states_of v c.records.items b.records.items) Some
-          ∙ states_long v b.records.items (partners_in v c.records.items b.records.items) 0 c.records.items
-          ∙ ap length h.is_current.records ∙ sym many ∙ sym (ap length drafts);
+          ap length states ∙ length-map (states_of v (map unspent c.records.items) b.records.items) Some
+          ∙ states_long v b.records.items (partners_in v (map unspent c.records.items) b.records.items) 0 (map unspent c.records.items)
+          ∙ ap length (matched_records file now c h.is_current) ∙ sym many ∙ sym (ap length drafts);
     }
 
 -- ---- what is left of baselines
@@ -96,9 +100,10 @@ current_texts : (v : MatchingVersion) (file : File) (now before : List Placed) (
     → runs_texts s.runs.items s.drafts.items s.states.items ≡ map compact_text (current_runs v file now before)
 current_texts v file now before c b s h parts drafts states =
     ap (λ ds. runs_texts s.runs.items ds s.states.items) (drafts ∙ h.is_current.drafts)
-    ∙ ap (runs_texts s.runs.items (drafts_by (listing_of file) (applied_of file) (records_of now) (flat_map results_of (run_values now)))) states
-    ∙ runs_written (listing_of file) (applied_of file) (records_of now) (states_of v (records_of now) (records_of before)) s.runs.items (run_values now)
-    h.current_are_runs parts h.current_records (states_long v (records_of before) (partners_in v (records_of now) (records_of before)) 0 (records_of now))
+    ∙ ap (runs_texts s.runs.items (drafts_by (listing_of file) (applied_of file) (limited_records file now) (flat_map results_of (run_values now)))) states
+    ∙ runs_written (listing_of file) (applied_of file) (limited_records file now) (states_of v (records_of now) (records_of before)) s.runs.items (run_values now)
+    h.current_are_runs parts (limited_total file now h.current_records)
+    (states_long v (records_of before) (partners_in v (records_of now) (records_of before)) 0 (records_of now) ∙ sym (limited_long file (records_of now)))
 
 baseline_texts : (v : MatchingVersion) (file : File) (now before : List Placed) (c : Half) (b : Baselines) (t : Side) → AreTogether file now before c b
     → IsLeft before (taken_of v (records_of now) (records_of before)) t
@@ -118,9 +123,10 @@ current_counts : (v : MatchingVersion) (file : File) (now before : List Placed) 
     → tallied s.drafts.items s.states.items x l y ≡ count_of (current_runs v file now before) x l y
 current_counts v file now before c b s x l y h drafts states =
     ap (λ ds. tallied ds s.states.items x l y) (drafts ∙ h.is_current.drafts)
-    ∙ ap (λ ss. tallied (drafts_by (listing_of file) (applied_of file) (records_of now) (flat_map results_of (run_values now))) ss x l y) states
-    ∙ runs_count (listing_of file) (applied_of file) (records_of now) (states_of v (records_of now) (records_of before)) (run_values now) x l y
-    h.current_are_runs h.current_records (states_long v (records_of before) (partners_in v (records_of now) (records_of before)) 0 (records_of now))
+    ∙ ap (λ ss. tallied (drafts_by (listing_of file) (applied_of file) (limited_records file now) (flat_map results_of (run_values now))) ss x l y) states
+    ∙ runs_count (listing_of file) (applied_of file) (limited_records file now) (states_of v (records_of now) (records_of before)) (run_values now) x l y
+    h.current_are_runs (limited_total file now h.current_records)
+    (states_long v (records_of before) (partners_in v (records_of now) (records_of before)) 0 (records_of now) ∙ sym (limited_long file (records_of now)))
 
 baseline_counts : (v : MatchingVersion) (file : File) (now before : List Placed) (c : Half) (b : Baselines) (t : Side) (x : State) (l : Level) (y : Bool)
     → AreTogether file now before c b
@@ -136,12 +142,12 @@ baseline_counts v file now before c b t x l y h left =
 
 pub written : (v : MatchingVersion) (file : File) (now before : List Placed) (c : Half) (b : Baselines) (s t : Side) → AreTogether file now before c b
     → ArePartsOf own_count s.runs.items (run_values now)
-    → s.drafts.items ≡ c.drafts.items → s.states.items ≡ map Some (states_of v c.records.items b.records.items)
+    → s.drafts.items ≡ c.drafts.items → s.states.items ≡ map Some (states_of v (map unspent c.records.items) b.records.items)
     → IsLeft before (taken_of v (records_of now) (records_of before)) t
     → AreWritten s t (runs_by v file now before)
 written v file now before c b s t h parts drafts states left =
     let told =
-    states ∙ ap (λ rs. map Some (states_of v rs b.records.items)) h.is_current.records
+    states ∙ ap (λ rs. map Some (states_of v rs b.records.items)) (matched_records file now c h.is_current)
     ∙ ap (λ rs. map Some (states_of v (records_of now) rs)) h.are_baselines.records in record {
       texts =
           map-append compact_text (current_runs v file now before) (leftover_runs v now before)
@@ -154,7 +160,7 @@ written v file now before c b s t h parts drafts states left =
     }
 
 pub together : (file : File) (current baseline : Judged) (c : Half) (b : Baselines) → IsJudged file false current → IsJudged file true baseline
-    → IsCurrent file (placed_in current) c → AreBaselines (placed_in baseline) b → AreTogether file (placed_in current) (placed_in baseline) c b
+    → IsFound file (placed_in current) c → AreBaselines (placed_in baseline) b → AreFound file (placed_in current) (placed_in baseline) c b
 together file current baseline c b j k is_c are_b =
     let now = placed_in current in
     let before = placed_in baseline in

@@ -8,16 +8,17 @@ use Rattle.sarif_counts.specs.Gate.{gate_of}
 use Rattle.sarif_log.specs.Copies.{naming}
 use Rattle.sarif_log.specs.Internal.Prepared.{IsPreparedAs}
 use Rattle.sarif_log.specs.Log.{log_with}
-use Rattle.sarif_log.specs.LogBy.{current_runs, leftover_runs, runs_by, runs_without_results}
+use Rattle.sarif_log.specs.LogBy.{current_runs, leftover_runs, limited_records, runs_by, runs_without_results}
 use Rattle.sarif_log.specs.declared.copies.CopyPlace.{CopyPlace}
 use Rattle.sarif_log.specs.declared.prepared.Prepared.{Prepared}
-use Rattle.sarif_match.specs.declared.version.MatchingVersion.{MatchingVersion}
+use Rattle.sarif_evidence.specs.declared.version.MatchingVersion.{MatchingVersion}
 use Rattle.sarif_once.specs.Once.{without_copies}
 use Rattle.sarif_options.specs.declared.checks.Checks.{Checks}
 use Rattle.sarif_options.specs.declared.policy.Policy.{Policy}
-use Rattle.sarif_prepare.specs.Kept.{merge_of}
+use Rattle.sarif_prepare.specs.Chosen.{chosen_merge}
+use Rattle.sarif_choice.specs.declared.choice.Choosing.{Choosing}
 use Rattle.sarif_prepare.specs.Once.{copies_written, current_once, leftover_once}
-use Rattle.sarif_runs.specs.Judging.{records_of, run_values}
+use Rattle.sarif_runs.specs.Judging.{run_values}
 use Rattle.sarif_runs.specs.Placed.{Placed}
 use Rattle.sarif_suppress.specs.Suppressing.{unused_of}
 use Rattle.sarif_upkeep.specs.Merge.{Merge}
@@ -60,7 +61,7 @@ IsPreparedBy checks file current baseline asked prepared =
     (runs_counted_if checks.once checks.matching file current baseline)
     (copies_if checks.once checks.matching current baseline)
     (runs_without_results (run_values current))
-    (unused_of file (records_of (counted_if checks.once current))) asked prepared
+    (unused_of file (limited_records file (counted_if checks.once current))) asked prepared
 
 -- the log of these input runs, baseline runs and suppression file, as these checks say how results are matched and counted
 abbrev pub logged_by : Checks → File → List Placed → List Placed → Policy → Data
@@ -68,11 +69,12 @@ logged_by checks file current baseline policy =
     log_with (naming (copies_if checks.once checks.matching current baseline)
     (gate_of (count_of (runs_counted_if checks.once checks.matching file current baseline)) policy
     (runs_without_results (run_values current))
-    (unused_of file (records_of (counted_if checks.once current)))))
+    (unused_of file (limited_records file (counted_if checks.once current)))))
     (written_if checks.once checks.matching file current baseline)
 
 -- the merge of the results that are counted, for later merges
-abbrev pub merge_by : Checks → File → Option (List ℕ) → Policy → List Placed → List Placed → Merge
-merge_by checks file bytes policy current baseline =
-    merge_of checks.matching file bytes policy
+abbrev pub merge_by : Checks → File → Option (List ℕ) → Policy → Option Choosing
+    → List Placed → List Placed → Merge
+merge_by checks file bytes policy choice current baseline =
+    chosen_merge checks.matching file bytes policy choice
     (counted_if checks.once current) (counted_if checks.once baseline)

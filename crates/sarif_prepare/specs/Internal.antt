@@ -5,7 +5,9 @@ pub mod Halves
 pub mod Keeping
 pub mod LeftParts
 pub mod Leftover
+pub mod Limiting
 pub mod Marked
+pub mod Marking
 pub mod Telling
 pub mod Together
 pub mod Woven

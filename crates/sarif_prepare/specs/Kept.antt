@@ -6,7 +6,7 @@ use Rattle.sarif_model.specs.MergeFault.{out_of_memory}
 use Rattle.sarif_counts.specs.declared.life.Life.{Life}
 use Rattle.sarif_options.specs.declared.policy.Policy.{Policy}
 use Rattle.sarif_options.specs.declared.upkeep.Upkeep.{Upkeep}
-use Rattle.sarif_match.specs.declared.version.MatchingVersion.{MatchingVersion}
+use Rattle.sarif_evidence.specs.declared.version.MatchingVersion.{MatchingVersion}
 use Rattle.sarif_entries.specs.File.{File}
 use Rattle.sarif_runs.specs.Judging.{records_of, run_values}
 use Rattle.sarif_runs.specs.Placed.{Placed}
@@ -18,7 +18,7 @@ use Rattle.sarif_upkeep.specs.Life.{life_faults, life_of}
 use Rattle.sarif_upkeep.specs.Merge.{Merge}
 use Rattle.sarif_upkeep.specs.ReadBack.{IsReadAgain}
 use Rattle.sarif_prepare.specs.declared.file_read.FileRead.{FileRead}
-use Rattle.sarif_log.specs.LogBy.{partner_in, states_of, taken_of}
+use Rattle.sarif_log.specs.LogBy.{limited_records, partner_in, states_of, taken_of}
 
 -- what matching by a version says about each of these current results; the first has number n
 abbrev pub standings_from : MatchingVersion → List Record → List (Option ℕ) → ℕ → List Record
@@ -42,9 +42,11 @@ merge_of version file bytes policy current baseline = record {
   policy = policy;
   matching = version;
   runs = run_values current;
-  records = records_of current;
+  records = limited_records file current;
   states = states_of version (records_of current) (records_of baseline);
   standings = standings_of version (records_of current) (records_of baseline);
+  chosen = None;
+  misfit = None;
   before = run_values baseline;
   known = records_of baseline;
   taken = taken_of version (records_of current) (records_of baseline);

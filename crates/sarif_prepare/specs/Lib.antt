@@ -1,5 +1,6 @@
 pub mod Asked
 pub mod By
+pub mod Chosen
 pub mod Internal
 pub mod Kept
 pub mod Once

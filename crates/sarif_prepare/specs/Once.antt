@@ -1,16 +1,16 @@
 -- The merged log whose copies aren't counted: findings alone are matched, and a copy has what its finding has.
-use Rattle.std.specs.Prelude.{Bool, false, List, [], ◌∷◌, ◌++◌, length, take, drop, Option, Some}
+use Rattle.std.specs.Prelude.{ℕ, Bool, false, List, [], ◌∷◌, ◌++◌, length, take, drop, Option, Some}
 use Rattle.serde_json.specs.Data.{Data}
 use Rattle.sarif_copies.specs.Copies.{copies_of, numbers_of, spread}
 use Rattle.sarif_entries.specs.File.{File}
 use Rattle.sarif_findings.specs.declared.reporting.Reporting.{Reporting}
 use Rattle.sarif_log.specs.Copies.{if_any, places_from}
 use Rattle.sarif_log.specs.Internal.Prepared.{IsPreparedAs}
-use Rattle.sarif_log.specs.LogBy.{listing_of, runs_by, runs_without_results, states_of, taken_of}
+use Rattle.sarif_log.specs.LogBy.{limited_records, listing_of, runs_by, runs_without_results, states_of, taken_of}
 use Rattle.sarif_log.specs.MergedRuns.{absent_runs, merged_runs}
 use Rattle.sarif_log.specs.declared.copies.CopyPlace.{CopyPlace}
 use Rattle.sarif_log.specs.declared.prepared.Prepared.{Prepared}
-use Rattle.sarif_match.specs.declared.version.MatchingVersion.{MatchingVersion}
+use Rattle.sarif_evidence.specs.declared.version.MatchingVersion.{MatchingVersion}
 use Rattle.sarif_model.specs.Run.{present, results_of}
 use Rattle.sarif_model.specs.declared.kinds.State.{State}
 use Rattle.sarif_model.specs.declared.kinds.State.TheVariants.{New}
@@ -19,6 +19,7 @@ use Rattle.sarif_once.specs.Once.{without_copies}
 use Rattle.sarif_read.specs.Unmarked.{unmarked}
 use Rattle.sarif_runs.specs.Judging.{records_of, run_values}
 use Rattle.sarif_runs.specs.Placed.{Placed}
+use Rattle.sarif_suppress.specs.Limited.{all_spent, with_spent}
 use Rattle.sarif_suppress.specs.Suppressing.{unused_of}
 
 -- ---- matching
@@ -37,12 +38,28 @@ abbrev pub taken_once : MatchingVersion → List Record → List Record → List
 taken_once version cs bs =
     spread false (numbers_of bs) (taken_of version (findings_only cs) (findings_only bs))
 
+-- ---- suppressing
+
+-- the results, each with these numbers of entries
+abbrev pub with_each : List Record → List (List ℕ) → List Record
+with_each [] lists = []
+with_each (r ∷ rs) [] = []
+with_each (r ∷ rs) (numbers ∷ lists) = with_spent r numbers ∷ with_each rs lists
+
+-- for each result the numbers of the entries that are used up before its finding
+abbrev pub spent_once : File → List Record → List (List ℕ)
+spent_once file rs = spread [] (numbers_of rs) (all_spent file (findings_only rs))
+
+-- the results, each with the entries that are used up before its finding
+abbrev pub limited_once : File → List Record → List Record
+limited_once file rs = with_each rs (spent_once file rs)
+
 -- ---- what is written
 
 -- the input runs, each result with its level, the state of its finding and its suppressions
 abbrev pub current_once : MatchingVersion → File → List Placed → List Placed → List Data
 current_once version file current baseline =
-    merged_runs (listing_of file) (records_of current)
+    merged_runs (listing_of file) (limited_once file (records_of current))
     (states_once version (records_of current) (records_of baseline)) (run_values current)
 
 -- the baseline runs with a result that is unmatched or a copy of such a result, with exactly these results
@@ -98,4 +115,4 @@ IsPreparedOnce version file current baseline asked prepared =
     (runs_counted version file current baseline)
     (Some (copies_written version current baseline))
     (runs_without_results (run_values current))
-    (unused_of file (records_of (without_copies current))) asked prepared
+    (unused_of file (limited_records file (without_copies current))) asked prepared

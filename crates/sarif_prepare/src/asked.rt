@@ -1,4 +1,5 @@
 //! The request for a merge.
+use sarif_choice::Choosing;
 use sarif_findings::Reporting;
 use sarif_options::{Options, Upkeep};
 
@@ -12,4 +13,6 @@ pub struct Asked<'o> {
     pub reporting: Option<&'o Reporting>,
     /// What is made for later merges, if anything is.
     pub upkeep: Option<&'o Upkeep>,
+    /// Which hits are accepted, if not all are.
+    pub choice: Option<&'o Choosing>,
 }

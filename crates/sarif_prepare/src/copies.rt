@@ -15,13 +15,16 @@ ghost use Rattle.sarif_prepare.specs.Internal.Baselines.{baseline_drafts};
 ghost use Rattle.sarif_prepare.specs.Internal.Leftover.{found_at, leftover_draft};
 
 use crate::baselines::count_present;
+use crate::changes::{Changes, change_drafts};
 use crate::halves::take_drafts;
 use crate::leftover::Leftover;
 use crate::leftovers::draft_leftovers;
+use crate::limiting::{ChangesOnce, changes_once};
 use crate::parts_of_runs::count_listed;
 use sarif_once::{CopyMarks, Parted, mark_copies, part_runs};
 use sarif_results::{Draft, Judged, Outcome};
 use sarif_runs::{Item, OpenedRun, Spot, list_spots};
+use sarif_suppress::Suppressions;
 use std::alloc::{AllocError, Global};
 use std::hash::RandomState;
 use std::thread::Threads;
@@ -53,10 +56,11 @@ pub(crate) struct BaselineCopies {
     pub(crate) drafts: Vec<Draft>,
 }
 
-/// Runs of logs without their copies, and what is needed of the copies.
+/// Runs of logs without their copies, what changes for their results, and what is needed of the copies.
 #[derive(Drop)]
 pub(crate) struct SplitLogs<'t, 'a> {
     pub(crate) rest: Judged<'t, 'a>,
+    pub(crate) changes: Changes,
     pub(crate) copies: CurrentCopies,
 }
 
@@ -83,22 +87,28 @@ pub(crate) fn split_logs<'t, 'a>(
     alloc: Global,
     seed: RandomState,
     judged: Judged<'t, 'a>,
+    file: &Suppressions,
 ) -> Result<SplitLogs<'t, 'a>, AllocError>
-    requires { (file : File) × IsJudged file false judged }
-    ensures { IfOk result (λ split. (file : File) → IsJudged file false judged.entry
-        → AreSplitLogs file (placed_in judged.entry) split) }
+    requires { IsJudged file.now false judged }
+    ensures { IfOk result (AreSplitLogs file.now (placed_in judged.entry)) }
 {
     let CopyMarks { marks, apart } = mark_copies(alloc, seed, &judged)?;
     let counts = list_counts(alloc, &judged.runs)?;
+    let ChangesOnce { findings, copies } = changes_once(alloc, &judged, &apart, file)?;
     let Parted { rest, marked } = part_runs(alloc, judged, &marks)?;
     let drafts = take_drafts(alloc, marked)?;
+    let drafts = change_drafts(alloc, drafts, copies)?;
     let copies = CurrentCopies {
         marks: apart.copies,
         numbers: apart.numbers,
         counts,
         drafts,
     };
-    Ok(SplitLogs { rest, copies })
+    Ok(SplitLogs {
+        rest,
+        changes: findings,
+        copies,
+    })
 }
 
 /// Adds a baseline result, if it is marked and has a record.

@@ -1,10 +1,16 @@
 //! The runs of all logs, with what was judged of their results.
-ghost use Rattle.std.specs.Prelude.{◌≡◌, ◌++◌, ◌∷◌, [], false, IfOk, OnOk, map};
+ghost use Rattle.std.specs.Prelude.{◌≡◌, ◌++◌, ◌∷◌, [], false, IfOk, OnOk, List, map};
+ghost use Rattle.std.specs.List.{flat_map};
 ghost use Rattle.sarif_entries.specs.File.{File};
-ghost use Rattle.sarif_runs.specs.Judging.{records_in};
-ghost use Rattle.sarif_prepare.specs.Internal.Halves.{drafts_in, with_draft, IsCurrent};
+ghost use Rattle.sarif_model.specs.Run.{results_of};
+ghost use Rattle.sarif_runs.specs.Judging.{records_in, records_of, run_values};
+ghost use Rattle.sarif_runs.specs.Placed.{Placed};
+ghost use Rattle.sarif_suppress.specs.Limited.{all_spent};
+ghost use Rattle.sarif_prepare.specs.Internal.Halves.{drafts_in, with_draft, IsCurrent, IsFound};
+ghost use Rattle.sarif_prepare.specs.Internal.Limiting.{AreChanges};
 ghost use Rattle.sarif_results.specs.Internal.Judged.{placed_in, IsJudged};
 
+use crate::changes::{Changes, change_drafts, change_records};
 use sarif_model::Record;
 use sarif_results::{Draft, Judged, Outcome};
 use sarif_runs::{Item, OpenedRun};
@@ -70,16 +76,46 @@ fn push_draft(drafts: &mut Vec<Draft>, draft: Option<Draft>) -> Result<(), Alloc
     Ok(())
 }
 
-/// The runs of logs.
+/// The runs of logs, as they were judged.
 pub(crate) fn current_half<'t, 'a>(
     alloc: Global,
     judged: Judged<'t, 'a>,
 ) -> Result<Half<'t, 'a>, AllocError>
     ensures { IfOk result (λ half. (file : File) → IsJudged file false judged.entry
-        → IsCurrent file (placed_in judged.entry) half) }
+        → IsFound file (placed_in judged.entry) half) }
 {
     let Judged { runs, outcomes } = judged;
     let RecordsAndDrafts { records, drafts } = take_found(alloc, outcomes)?;
+    Ok(Half {
+        runs,
+        records,
+        drafts,
+    })
+}
+
+/// The runs of logs with what changes for their results.
+pub(crate) fn change_half<'t, 'a>(
+    alloc: Global,
+    half: Half<'t, 'a>,
+    changes: Changes,
+) -> Result<Half<'t, 'a>, AllocError>
+    ensures { IfOk result (λ changed. (file : File) (runs : List Placed)
+        → IsFound file runs half.entry
+        → AreChanges file (records_of runs) (all_spent file (records_of runs))
+        (flat_map results_of (run_values runs)) changes
+        → IsCurrent file runs changed) }
+{
+    let Half {
+        runs,
+        records,
+        drafts,
+    } = half;
+    let Changes {
+        spent,
+        drafts: again,
+    } = changes;
+    let records = change_records(alloc, records, spent)?;
+    let drafts = change_drafts(alloc, drafts, again)?;
     Ok(Half {
         runs,
         records,

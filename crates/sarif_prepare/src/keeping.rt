@@ -1,5 +1,5 @@
 //! What is for later merges.
-ghost use Rattle.std.specs.Prelude.{◌≡◌, List, Some, map, unwrap_or, IfOk};
+ghost use Rattle.std.specs.Prelude.{◌≡◌, List, Some, map, option_map, unwrap_or, IfOk};
 ghost use Rattle.sarif_model.specs.declared.kinds.State.TheVariants.{New};
 ghost use Rattle.sarif_runs.specs.Placed.{Placed};
 ghost use Rattle.sarif_upkeep.specs.Internal.IsMatched.{IsFileOf};
@@ -9,23 +9,15 @@ ghost use Rattle.sarif_prepare.specs.Asked.{upkeep_in};
 ghost use Rattle.sarif_prepare.specs.Internal.Together.{IsPaired};
 
 use crate::asked::Asked;
-use crate::baselines::Baselines;
 use crate::file_read::FileRead;
-use crate::halves::Half;
-use crate::preparing::Paired;
+use crate::marking::mark_if_chosen;
+use crate::pairing::Sides;
 use sarif_counts::Life;
 use sarif_model::{MergeFault, State};
 use sarif_options::Upkeep;
 use sarif_upkeep::{Before, Current, Matched, life_of};
 use std::alloc::{AllocError, Global};
-
-/// The runs of logs and of baselines, and how their results were matched.
-#[derive(Clone, Copy)]
-pub(crate) struct Sides<'s, 't: 's, 'a: 't> {
-    pub(crate) current: &'s Half<'t, 'a>,
-    pub(crate) baselines: &'s Baselines<'t, 'a>,
-    pub(crate) paired: &'s Paired,
-}
+use std::thread::Threads;
 
 /// The state of each current result; each has one.
 pub(crate) fn list_there(alloc: Global, states: &[Option<State>]) -> Result<Vec<State>, AllocError>
@@ -38,8 +30,19 @@ pub(crate) fn list_there(alloc: Global, states: &[Option<State>]) -> Result<Vec<
     Ok(there)
 }
 
+/// The marks, if there are some.
+fn lent(marks: &Option<Vec<bool>>) -> Option<&[bool]>
+    ensures { option_map (λ lent. lent.now) result ≡ option_map (λ v. v.items) marks.now }
+{
+    match marks {
+        None => None,
+        Some(marks) => Some(marks.as_slice()),
+    }
+}
+
 /// What a merge gives for later merges, where something is requested.
-fn keep(
+fn keep<R: Threads + Sync>(
+    rt: &R,
     alloc: Global,
     sides: &Sides<'_, '_, '_>,
     rules: &FileRead<'_>,
@@ -54,12 +57,14 @@ fn keep(
     ensures kept { KeepsIfOk rules.now asked.now sides.now (Some upkeep.now) result }
     ensures unkept { RejectsIfErr rules.now asked.now sides.now (Some upkeep.now) result }
 {
+    let marks = mark_if_chosen(rt, alloc, sides, rules, asked)?;
     let states = list_there(alloc, &sides.paired.states)?;
     let matched = Matched {
         file: rules.file,
         bytes: rules.bytes,
         policy: asked.options.policy,
         matching: asked.options.checks.matching,
+        chosen: lent(&marks),
         current: Current {
             runs: &sides.current.runs,
             records: &sides.current.records,
@@ -79,7 +84,8 @@ fn keep(
 }
 
 /// What a merge gives for later merges: what is requested, and nothing else.
-pub(crate) fn keep_if_asked(
+pub(crate) fn keep_if_asked<R: Threads + Sync>(
+    rt: &R,
     alloc: Global,
     sides: &Sides<'_, '_, '_>,
     rules: &FileRead<'_>,
@@ -94,7 +100,7 @@ pub(crate) fn keep_if_asked(
     ensures unkept { RejectsIfErr rules.now asked.now sides.now (upkeep_in asked.now) result }
 {
     match asked.upkeep {
-        Some(upkeep) => keep(alloc, sides, rules, asked, upkeep),
+        Some(upkeep) => keep(rt, alloc, sides, rules, asked, upkeep),
         None => Ok(Life::none()),
     }
 }

@@ -4,6 +4,7 @@
 
 mod asked;
 mod baselines;
+mod changes;
 mod choosing;
 mod copies;
 mod file_read;
@@ -12,8 +13,11 @@ mod keeping;
 mod left;
 mod leftover;
 mod leftovers;
+mod limiting;
+mod marking;
 mod matched;
 mod once;
+mod pairing;
 mod parts_of_runs;
 mod preparing;
 mod run_parts;

@@ -7,8 +7,9 @@ ghost use Rattle.sarif_log.specs.LogBy.{partner_in, states_of, taken_of};
 ghost use Rattle.sarif_prepare.specs.Kept.{standings_from, standings_of};
 ghost use Rattle.sarif_model.specs.Limits.{most_results};
 
+use sarif_evidence::MatchingVersion;
 use sarif_known::{Standing, standing_of};
-use sarif_match::{Matching, MatchingVersion, match_all_in};
+use sarif_match::{Matching, match_all_in};
 use sarif_model::{Record, State};
 use sarif_options::Options;
 use sarif_share::{Sharing, join_lists, share_parts};

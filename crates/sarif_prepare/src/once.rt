@@ -3,9 +3,10 @@ ghost use Rattle.std.specs.Prelude.{◌≡◌, false, true, List, Some, IfOk, If
 ghost use Rattle.sarif_log.specs.LogBy.{expired_of};
 ghost use Rattle.sarif_model.specs.declared.record.Record.{Record};
 ghost use Rattle.sarif_once.specs.Once.{without_copies};
-ghost use Rattle.sarif_prepare.specs.Asked.{reporting_in, upkeep_in};
+ghost use Rattle.sarif_prepare.specs.Asked.{choice_in, reporting_in, upkeep_in};
+ghost use Rattle.sarif_prepare.specs.Chosen.{chosen_merge};
 ghost use Rattle.sarif_prepare.specs.Internal.Woven.{flags_of, AreApart, AreWoven};
-ghost use Rattle.sarif_prepare.specs.Kept.{bytes_of, merge_of, IsKept, IsUnkept};
+ghost use Rattle.sarif_prepare.specs.Kept.{bytes_of, IsKept, IsUnkept};
 ghost use Rattle.sarif_prepare.specs.Once.{IsPreparedOnce};
 ghost use Rattle.sarif_results.specs.Internal.Judged.{placed_in, IsJudged};
 ghost use Rattle.sarif_runs.specs.Placed.{Placed};
@@ -13,12 +14,14 @@ ghost use Rattle.sarif_upkeep.specs.Internal.IsMatched.{IsFileOf};
 
 use crate::asked::Asked;
 use crate::baselines::{Baselines, gather_baselines};
+use crate::changes::Changes;
 use crate::copies::{
     BaselineCopies, CurrentCopies, SplitBaselines, SplitLogs, split_baselines, split_logs,
 };
 use crate::file_read::FileRead;
 use crate::halves::{Half, current_half};
-use crate::preparing::{CurrentSide, Paired, ReportedSides, tell_sides};
+use crate::pairing::{Paired, PairedSides, pair_sides};
+use crate::preparing::{CurrentSide, ToldSides, tell_sides};
 use crate::woven::{CurrentWoven, LeftWoven, weave_baselines, weave_logs};
 use sarif_counts::Life;
 use sarif_findings::Finding;
@@ -28,10 +31,11 @@ use sarif_results::Judged;
 use std::alloc::{AllocError, Global};
 use std::thread::Threads;
 
-/// The two sides without their copies, and what is needed of the copies.
+/// The two sides without their copies, what changes for the findings of logs, and what is needed of the copies.
 #[derive(Drop)]
 pub(crate) struct SplitSides<'t, 'a> {
     pub(crate) current: Half<'t, 'a>,
+    pub(crate) changes: Changes,
     pub(crate) baselines: Baselines<'t, 'a>,
     pub(crate) current_copies: CurrentCopies,
     pub(crate) baseline_copies: BaselineCopies,
@@ -53,13 +57,18 @@ fn split_sides<'t, 'a, R: Threads + Sync>(
 {
     let seed = asked.options.seed;
     let threads = asked.options.workers + 1;
-    let SplitLogs { rest, copies } = split_logs(alloc, seed, current)?;
+    let SplitLogs {
+        rest,
+        changes,
+        copies,
+    } = split_logs(alloc, seed, current, rules.file)?;
     let current = current_half(alloc, rest)?;
     let current_copies = copies;
     let SplitBaselines { rest, copies } = split_baselines(rt, alloc, seed, baseline, threads)?;
     let baselines = gather_baselines(alloc, rest)?;
     Ok(SplitSides {
         current,
+        changes,
         baselines,
         current_copies,
         baseline_copies: copies,
@@ -133,26 +142,29 @@ fn prepare_split<R: Threads + Sync>(
         (λ prepared. (rs : List Record) → prepared.expired ≡ expired_of rules.now.file.now rs) }
     ensures kept { (now before : List Placed)
         → AreApart rules.now.file.now now before split.entry
-        → IfOk result (λ prepared. IsKept (merge_of asked.now.options.now.checks.matching
-        rules.now.file.now (bytes_of rules.now) asked.now.options.now.policy
+        → IfOk result (λ prepared. IsKept (chosen_merge asked.now.options.now.checks.matching
+        rules.now.file.now (bytes_of rules.now) asked.now.options.now.policy (choice_in asked.now)
         (without_copies now) (without_copies before)) (upkeep_in asked.now) prepared.life) }
     ensures unkept { (now before : List Placed)
         → AreApart rules.now.file.now now before split.entry
-        → IfErr result (IsUnkept (merge_of asked.now.options.now.checks.matching
-        rules.now.file.now (bytes_of rules.now) asked.now.options.now.policy
+        → IfErr result (IsUnkept (chosen_merge asked.now.options.now.checks.matching
+        rules.now.file.now (bytes_of rules.now) asked.now.options.now.policy (choice_in asked.now)
         (without_copies now) (without_copies before)) (upkeep_in asked.now)) }
 {
     let SplitSides {
         current,
+        changes,
         baselines,
         current_copies,
         baseline_copies,
     } = split;
-    let ReportedSides {
+    let sides = pair_sides(rt, alloc, current, changes, baselines, asked.options)?;
+    let ToldSides { findings, life } = tell_sides(rt, alloc, &sides.lend(), rules, asked)?;
+    let PairedSides {
+        current,
+        baselines,
         paired,
-        findings,
-        life,
-    } = tell_sides(rt, alloc, &current, &baselines, rules, asked)?;
+    } = sides;
     let Paired {
         states,
         taken,
@@ -184,12 +196,13 @@ pub fn prepare_once<R: Threads + Sync>(
         (placed_in baseline.entry) (reporting_in asked.now)) }
     ensures expired { IfOk result
         (λ prepared. (rs : List Record) → prepared.expired ≡ expired_of rules.now.file.now rs) }
-    ensures kept { IfOk result (λ prepared. IsKept (merge_of asked.now.options.now.checks.matching
-        rules.now.file.now (bytes_of rules.now) asked.now.options.now.policy
+    ensures kept { IfOk result
+        (λ prepared. IsKept (chosen_merge asked.now.options.now.checks.matching
+        rules.now.file.now (bytes_of rules.now) asked.now.options.now.policy (choice_in asked.now)
         (without_copies (placed_in current.entry)) (without_copies (placed_in baseline.entry)))
         (upkeep_in asked.now) prepared.life) }
-    ensures unkept { IfErr result (IsUnkept (merge_of asked.now.options.now.checks.matching
-        rules.now.file.now (bytes_of rules.now) asked.now.options.now.policy
+    ensures unkept { IfErr result (IsUnkept (chosen_merge asked.now.options.now.checks.matching
+        rules.now.file.now (bytes_of rules.now) asked.now.options.now.policy (choice_in asked.now)
         (without_copies (placed_in current.entry)) (without_copies (placed_in baseline.entry)))
         (upkeep_in asked.now)) }
 {

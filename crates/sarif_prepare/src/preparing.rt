@@ -1,4 +1,4 @@
-//! Matching the results of logs with those of baselines.
+//! What is made of the results of logs and of baselines once they are matched.
 ghost use Rattle.std.specs.Prelude.{◌≡◌, ◌≤◌, false, true, not, is_some, count_by, length, map, List, IfOk, IfErr};
 ghost use Rattle.std.specs.List.{AllByRecursion};
 ghost use Rattle.serde_json.specs.Data.{Data};
@@ -14,46 +14,34 @@ ghost use Rattle.sarif_log.specs.LogBy.{expired_of, listing_of, runs_by};
 ghost use Rattle.sarif_log.specs.Internal.Prepared.{IsPrepared};
 ghost use Rattle.sarif_results.specs.Internal.Judged.{placed_in, IsJudged};
 ghost use Rattle.sarif_upkeep.specs.Internal.IsMatched.{IsFileOf};
-ghost use Rattle.sarif_prepare.specs.Kept.{bytes_of, merge_of, IsKept, IsUnkept};
-ghost use Rattle.sarif_prepare.specs.Asked.{reporting_in, upkeep_in};
+ghost use Rattle.sarif_prepare.specs.Chosen.{chosen_merge};
+ghost use Rattle.sarif_prepare.specs.Kept.{bytes_of, IsKept, IsUnkept};
+ghost use Rattle.sarif_prepare.specs.Asked.{choice_in, reporting_in, upkeep_in};
+ghost use Rattle.sarif_prepare.specs.Internal.Keeping.{AreOfRuns};
 ghost use Rattle.sarif_prepare.specs.Internal.Together.{AreTogether, IsPaired};
 ghost use Rattle.sarif_log.specs.Told.{told_of};
 ghost use Rattle.sarif_model.specs.Limits.{most_runs};
 
 use crate::asked::Asked;
-use crate::baselines::{Baselines, gather_baselines};
+use crate::baselines::gather_baselines;
 use crate::file_read::FileRead;
 use crate::halves::{Half, current_half};
-use crate::keeping::{Sides, keep_if_asked};
-use crate::left::{left_drafts, left_side};
-use crate::matched::{MatchedStates, match_records};
+use crate::keeping::keep_if_asked;
+use crate::left::left_side;
+use crate::limiting::changes_of_all;
+use crate::pairing::{Paired, PairedSides, Sides, pair_sides};
 use crate::parts_of_runs::current_parts;
 use crate::run_parts::count_without;
 use crate::telling::{tell_current, tell_left};
 use crate::unused::{count_expired, count_unused};
 use sarif_counts::Life;
 use sarif_findings::Finding;
-use sarif_known::Standing;
 use sarif_log::{Prepared, Side, Spent};
 use sarif_model::{MergeFault, Record, State};
-use sarif_options::Options;
-use sarif_results::{Draft, Judged};
+use sarif_results::Judged;
 use sarif_suppress::Suppressions;
 use std::alloc::{AllocError, Global};
 use std::thread::Threads;
-
-/// How the results of logs and of baselines were matched.
-#[derive(Drop)]
-pub(crate) struct Paired {
-    /// What matching says about each current result.
-    pub(crate) standings: Vec<Standing>,
-    /// The baseline state of each current result.
-    pub(crate) states: Vec<Option<State>>,
-    /// Whether each baseline result is the match of a current result.
-    pub(crate) taken: Vec<bool>,
-    /// The drafts of those that aren't.
-    pub(crate) left: Vec<Draft>,
-}
 
 /// What is written for the runs of logs.
 #[derive(Drop)]
@@ -69,55 +57,30 @@ pub(crate) struct CurrentSide {
     pub(crate) records: Vec<Record>,
 }
 
-/// Matches the results of logs with those of baselines.
-fn pair_results<R: Threads + Sync>(
-    rt: &R,
-    alloc: Global,
-    current: &Half<'_, '_>,
-    baselines: &Baselines<'_, '_>,
-    options: &Options,
-) -> Result<Paired, AllocError>
-    requires { (file : File) × (current_runs : List Placed) × (baseline_runs : List Placed)
-        × AreTogether file current_runs baseline_runs current.now baselines.now }
-    ensures { IfOk result (IsPaired options.now.checks.matching current.now baselines.now) }
-{
-    let records = &baselines.records;
-    let MatchedStates {
-        standings,
-        states,
-        taken,
-    } = match_records(rt, alloc, options, &current.records, records)?;
-    let left = left_drafts(rt, alloc, baselines, &taken, options.workers + 1)?;
-    Ok(Paired {
-        standings,
-        states,
-        taken,
-        left,
-    })
-}
-
 /// The findings of the written results, if they are requested.
-fn tell_results<R: Threads + Sync>(
+pub(crate) fn tell_results<R: Threads + Sync>(
     rt: &R,
     alloc: Global,
     asked: &Asked<'_>,
-    current: &Half<'_, '_>,
-    baselines: &Baselines<'_, '_>,
-    paired: &Paired,
+    sides: &Sides<'_, '_, '_>,
 ) -> Result<Vec<Finding>, AllocError>
     requires together { (file : File)
         × (current_runs : List Placed) × (baseline_runs : List Placed)
-        × AreTogether file current_runs baseline_runs current.now baselines.now }
+        × AreTogether file current_runs baseline_runs
+        sides.now.current.now sides.now.baselines.now }
     requires paired { IsPaired asked.now.options.now.checks.matching
-        current.now baselines.now paired.now }
+        sides.now.current.now sides.now.baselines.now sides.now.paired.now }
     ensures { IfOk result (λ findings. (file : File) (current_runs baseline_runs : List Placed)
-        → AreTogether file current_runs baseline_runs current.now baselines.now
+        → AreTogether file current_runs baseline_runs
+        sides.now.current.now sides.now.baselines.now
         → findings.items
-        ≡ told_of (reporting_in asked.now) (runs_by asked.now.options.now.checks.matching file current_runs baseline_runs)) }
+        ≡ told_of (reporting_in asked.now)
+        (runs_by asked.now.options.now.checks.matching file current_runs baseline_runs)) }
 {
-    let mut findings = tell_current(rt, alloc, asked, current, &paired.states)?;
+    let paired = sides.paired;
+    let mut findings = tell_current(rt, alloc, asked, sides.current, &paired.states)?;
     let left = &paired.left;
-    let mut absent = tell_left(rt, alloc, asked, baselines, &paired.taken, left)?;
+    let mut absent = tell_left(rt, alloc, asked, sides.baselines, &paired.taken, left)?;
     findings.append(&mut absent)?;
     Ok(findings)
 }
@@ -168,92 +131,90 @@ fn current_side(
     })
 }
 
-/// What is reported about the results of logs and baselines, once they are matched.
+/// What is reported about the results of logs and baselines, and what is for later merges.
 #[derive(Drop)]
-pub(crate) struct ReportedSides {
-    pub(crate) paired: Paired,
+pub(crate) struct ToldSides {
     pub(crate) findings: Vec<Finding>,
     pub(crate) life: Life,
 }
 
-/// Matches the results of logs with those of baselines, and says what is reported and what is for later merges.
+/// What is reported about matched results, and what is for later merges.
 pub(crate) fn tell_sides<R: Threads + Sync>(
     rt: &R,
     alloc: Global,
-    current: &Half<'_, '_>,
-    baselines: &Baselines<'_, '_>,
+    sides: &Sides<'_, '_, '_>,
     rules: &FileRead<'_>,
     asked: &Asked<'_>,
-) -> Result<ReportedSides, MergeFault>
+) -> Result<ToldSides, MergeFault>
     requires read { IsFileOf (bytes_of rules.now) rules.now.file.now }
     requires together { (current_runs : List Placed) × (baseline_runs : List Placed)
-        × AreTogether rules.now.file.now current_runs baseline_runs current.now baselines.now }
-    ensures paired { IfOk result (λ told. IsPaired asked.now.options.now.checks.matching
-        current.now baselines.now told.paired) }
+        × AreOfRuns rules.now sides.now current_runs baseline_runs }
+    requires paired { IsPaired asked.now.options.now.checks.matching
+        sides.now.current.now sides.now.baselines.now sides.now.paired.now }
     ensures findings { IfOk result (λ told. (file : File) (current_runs baseline_runs : List Placed)
-        → AreTogether file current_runs baseline_runs current.now baselines.now
+        → AreTogether file current_runs baseline_runs
+        sides.now.current.now sides.now.baselines.now
         → told.findings.items
-        ≡ told_of (reporting_in asked.now) (runs_by asked.now.options.now.checks.matching file current_runs baseline_runs)) }
+        ≡ told_of (reporting_in asked.now)
+        (runs_by asked.now.options.now.checks.matching file current_runs baseline_runs)) }
     ensures kept { (current_runs baseline_runs : List Placed)
-        → AreTogether rules.now.file.now current_runs baseline_runs current.now baselines.now
-        → IfOk result (λ told. IsKept (merge_of asked.now.options.now.checks.matching
+        → AreOfRuns rules.now sides.now current_runs baseline_runs
+        → IfOk result (λ told. IsKept (chosen_merge asked.now.options.now.checks.matching
         rules.now.file.now (bytes_of rules.now)
-        asked.now.options.now.policy current_runs baseline_runs) (upkeep_in asked.now) told.life) }
+        asked.now.options.now.policy (choice_in asked.now) current_runs baseline_runs)
+        (upkeep_in asked.now) told.life) }
     ensures unkept { (current_runs baseline_runs : List Placed)
-        → AreTogether rules.now.file.now current_runs baseline_runs current.now baselines.now
-        → IfErr result (IsUnkept (merge_of asked.now.options.now.checks.matching
+        → AreOfRuns rules.now sides.now current_runs baseline_runs
+        → IfErr result (IsUnkept (chosen_merge asked.now.options.now.checks.matching
         rules.now.file.now (bytes_of rules.now)
-        asked.now.options.now.policy current_runs baseline_runs) (upkeep_in asked.now)) }
+        asked.now.options.now.policy (choice_in asked.now) current_runs baseline_runs)
+        (upkeep_in asked.now)) }
 {
-    let paired = pair_results(rt, alloc, current, baselines, asked.options)?;
-    let findings = tell_results(rt, alloc, asked, current, baselines, &paired)?;
-    let sides = Sides {
-        current,
-        baselines,
-        paired: &paired,
-    };
-    let life = keep_if_asked(alloc, &sides, rules, asked)?;
-    Ok(ReportedSides {
-        paired,
-        findings,
-        life,
-    })
+    let findings = tell_results(rt, alloc, asked, sides)?;
+    let life = keep_if_asked(rt, alloc, sides, rules, asked)?;
+    Ok(ToldSides { findings, life })
 }
 
-/// Matches the results of logs with those of baselines, and takes out of them what is written and reported, and what
-/// is for later merges.
+/// Takes out of matched results what is written and reported, and what is for later merges.
 fn prepare_sides<R: Threads + Sync>(
     rt: &R,
     alloc: Global,
-    current: Half<'_, '_>,
-    baselines: Baselines<'_, '_>,
+    sides: PairedSides<'_, '_>,
     rules: &FileRead<'_>,
     asked: &Asked<'_>,
 ) -> Result<Prepared, MergeFault>
     requires read { IsFileOf (bytes_of rules.now) rules.now.file.now }
     requires together { (current_runs : List Placed) × (baseline_runs : List Placed)
-        × AreTogether rules.now.file.now current_runs baseline_runs current baselines }
+        × AreTogether rules.now.file.now current_runs baseline_runs sides.current sides.baselines }
+    requires paired { IsPaired asked.now.options.now.checks.matching
+        sides.current sides.baselines sides.paired }
     ensures prepared { IfOk result (λ prepared. (current_runs baseline_runs : List Placed)
-        → AreTogether rules.now.file.now current_runs baseline_runs current.entry baselines.entry
-        → IsPrepared asked.now.options.now.checks.matching rules.now.file.now current_runs baseline_runs
-        (reporting_in asked.now) prepared) }
+        → AreTogether rules.now.file.now current_runs baseline_runs
+        sides.entry.current sides.entry.baselines
+        → IsPrepared asked.now.options.now.checks.matching rules.now.file.now
+        current_runs baseline_runs (reporting_in asked.now) prepared) }
     ensures kept { (current_runs baseline_runs : List Placed)
-        → AreTogether rules.now.file.now current_runs baseline_runs current.entry baselines.entry
-        → IfOk result (λ prepared. IsKept (merge_of asked.now.options.now.checks.matching
+        → AreTogether rules.now.file.now current_runs baseline_runs
+        sides.entry.current sides.entry.baselines
+        → IfOk result (λ prepared. IsKept (chosen_merge asked.now.options.now.checks.matching
         rules.now.file.now (bytes_of rules.now)
-        asked.now.options.now.policy current_runs baseline_runs) (upkeep_in asked.now)
+        asked.now.options.now.policy (choice_in asked.now) current_runs baseline_runs)
+        (upkeep_in asked.now)
         prepared.life) }
     ensures unkept { (current_runs baseline_runs : List Placed)
-        → AreTogether rules.now.file.now current_runs baseline_runs current.entry baselines.entry
-        → IfErr result (IsUnkept (merge_of asked.now.options.now.checks.matching
+        → AreTogether rules.now.file.now current_runs baseline_runs
+        sides.entry.current sides.entry.baselines
+        → IfErr result (IsUnkept (chosen_merge asked.now.options.now.checks.matching
         rules.now.file.now (bytes_of rules.now)
-        asked.now.options.now.policy current_runs baseline_runs) (upkeep_in asked.now)) }
+        asked.now.options.now.policy (choice_in asked.now) current_runs baseline_runs)
+        (upkeep_in asked.now)) }
 {
-    let ReportedSides {
+    let ToldSides { findings, life } = tell_sides(rt, alloc, &sides.lend(), rules, asked)?;
+    let PairedSides {
+        current,
+        baselines,
         paired,
-        findings,
-        life,
-    } = tell_sides(rt, alloc, &current, &baselines, rules, asked)?;
+    } = sides;
     let Paired {
         states,
         taken,
@@ -289,9 +250,10 @@ fn prepare_sides<R: Threads + Sync>(
 /// level, its baseline state and its suppressions, and the unmatched baseline results as absent (SARIF 2.1.0,
 /// "baselineState property"). Matching uses tables that hash with the options' seed, on which no result depends;
 /// the threads of the options share the work. If findings are requested, the result has them too, and if something is
-/// requested for later merges, that. Returns `TooMany` or `TooLong` at the suppression file if the new one could not be
-/// read again, then `TooLong` at the known log if this one could not, and `OutOfMemory` without a place if memory runs
-/// out.
+/// requested for later merges, that. It then returns `NoHit` at the first place of a choice that fits no chosen hit,
+/// otherwise at the first such rule, then `TooMany` or `TooLong` at the suppression file if the new one could not be
+/// read again, then `TooLong` at the known log if this one could not. Returns `OutOfMemory` without a place if memory
+/// runs out.
 pub fn prepare<R: Threads + Sync>(
     rt: &R,
     alloc: Global,
@@ -306,17 +268,22 @@ pub fn prepare<R: Threads + Sync>(
     ensures prepared { IfOk result (IsPrepared asked.now.options.now.checks.matching
         rules.now.file.now (placed_in current.entry)
         (placed_in baseline.entry) (reporting_in asked.now)) }
-    ensures kept { IfOk result (λ prepared. IsKept (merge_of asked.now.options.now.checks.matching
+    ensures kept { IfOk result
+        (λ prepared. IsKept (chosen_merge asked.now.options.now.checks.matching
         rules.now.file.now (bytes_of rules.now)
-        asked.now.options.now.policy (placed_in current.entry) (placed_in baseline.entry))
+        asked.now.options.now.policy (choice_in asked.now)
+        (placed_in current.entry) (placed_in baseline.entry))
         (upkeep_in asked.now) prepared.life) }
-    ensures unkept { IfErr result (IsUnkept (merge_of asked.now.options.now.checks.matching
+    ensures unkept { IfErr result (IsUnkept (chosen_merge asked.now.options.now.checks.matching
         rules.now.file.now (bytes_of rules.now)
-        asked.now.options.now.policy (placed_in current.entry) (placed_in baseline.entry))
+        asked.now.options.now.policy (choice_in asked.now)
+        (placed_in current.entry) (placed_in baseline.entry))
         (upkeep_in asked.now)) }
 {
+    let changes = changes_of_all(alloc, &current, rules.file)?;
     let current = current_half(alloc, current)?;
     let baselines = gather_baselines(alloc, baseline)?;
-    let prepared = prepare_sides(rt, alloc, current, baselines, rules, asked)?;
+    let sides = pair_sides(rt, alloc, current, changes, baselines, asked.options)?;
+    let prepared = prepare_sides(rt, alloc, sides, rules, asked)?;
     Ok(prepared)
 }

@@ -4,7 +4,7 @@ use Rattle.std.specs.Io.KnownBytes.{Appends}
 use Rattle.sarif_model.specs.declared.fault.Fault.{Fault}
 use Rattle.sarif_model.specs.declared.fault.Fault.TheVariants as fault
 use Rattle.sarif_model.specs.declared.merge_fault.At.{At}
-use Rattle.sarif_model.specs.declared.merge_fault.At.TheVariants.{Nowhere, Whole, Run, Single, Entry}
+use Rattle.sarif_model.specs.declared.merge_fault.At.TheVariants.{Nowhere, Whole, Run, Single, Entry, Place, Rule}
 use Rattle.sarif_model.specs.declared.merge_fault.Cause.{Cause}
 use Rattle.sarif_model.specs.declared.merge_fault.Cause.TheVariants as cause
 use Rattle.sarif_model.specs.FaultText.{at_text}
@@ -38,6 +38,7 @@ fault_name fault.BadEntry = codes "BadEntry"
 fault_name fault.EmptyMatch = codes "EmptyMatch"
 fault_name fault.NeedsToday = codes "NeedsToday"
 fault_name fault.NotSuccessful = codes "NotSuccessful"
+fault_name fault.NoHit = codes "NoHit"
 
 -- the name of a cause
 abbrev pub cause_name : Cause → List ℕ
@@ -56,6 +57,8 @@ placed (Run source run) name = at_text (Run source run) ++ (codes ": " ++ name)
 placed (Single source run result) name =
     at_text (Single source run result) ++ (codes ": " ++ name)
 placed (Entry entry) name = at_text (Entry entry) ++ (codes ": " ++ name)
+placed (Place number) name = at_text (Place number) ++ (codes ": " ++ name)
+placed (Rule number) name = at_text (Rule number) ++ (codes ": " ++ name)
 
 -- what an error message says
 abbrev pub complaint_text : Complaint → List ℕ

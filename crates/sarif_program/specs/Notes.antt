@@ -14,13 +14,22 @@ use Rattle.sarif_shown.specs.Sentences.{counted, entries_text, runs_text}
 use Rattle.sarif_streams.specs.Counted.{failed_calls, inner_of}
 use Rattle.sarif_program.specs.declared.complaint.Complaints.{Complaints}
 
--- the line on a new suppression file
-abbrev pub file_line : NewFile → List ℕ
-file_line file =
+-- how many hits are alike, if not all hits are chosen, and how many stay
+abbrev pub left_text : Option ℕ → ℕ → List ℕ
+left_text None stay = decimal stay
+left_text (Some n) stay = decimal n ++ (codes " alike, " ++ decimal stay)
+
+-- the line on a new suppression file, with this for the hits that are left
+abbrev pub file_with : NewFile → List ℕ → List ℕ
+file_with file left =
     codes "sarif_gate: " ++ (decimal file.accepted
-    ++ (codes " accepted, " ++ (decimal file.stay
+    ++ (codes " accepted, " ++ (left
     ++ (codes " stay, " ++ (decimal file.pruned
     ++ (codes " pruned, " ++ (decimal file.entries ++ (codes " entries" ++ newline))))))))
+
+-- the line on a new suppression file
+abbrev pub file_line : NewFile → List ℕ
+file_line file = file_with file (left_text file.alike file.stay)
 
 -- the line on a known log
 abbrev pub log_line : KnownLog → List ℕ

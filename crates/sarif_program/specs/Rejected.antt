@@ -23,7 +23,7 @@ pub record IsRejectedFor {R E : Type 0} (remaining : R → Option (List ℕ))
     (written : E → Option (List ℕ)) (request : Request) (readers after : Readers R)
     (complaints told : Complaints E) (status : ℕ) (fault : MergeFault) : Type 0 where
   pub refused : (fault.cause ≡ OutOfMemory → ⊥) → IsRefusedWith remaining readers after
-      request.options (Some request.upkeep) fault
+      request.options request.choice (Some request.upkeep) fault
   pub exits : status ≡ exit_status fault.cause
   pub said : HasComplained written (Fault fault) complaints told
 
@@ -38,7 +38,7 @@ abbrev pub AreFaulty : SourceContents → Request → Type 0
 AreFaulty contents request =
     (faults_of (given_by contents request.options) ≡ [] → ⊥)
     ⊎ ((fault : MergeFault)
-    × IsTooLargeWith contents request.options (Some request.upkeep) fault)
+    × IsTooLargeWith contents request.options request.choice (Some request.upkeep) fault)
 
 -- all sources were read, of readers that say what they have, and something is wrong with them
 abbrev pub WereFaulty : {R : Type 0} → (R → Option (List ℕ)) → Request → Readers R → Readers R

@@ -54,7 +54,7 @@ abbrev pub IsMergeOf : {R W S P E : Type 0} → Views R W S P E → Request → 
     → Streams R W S P E → Merged → Type 0
 IsMergeOf views request old new merged =
     IsMergedWith views.remaining old.readers new.readers request.options
-    (reporting_for request old.writers.reports.items) (Some request.upkeep) merged
+    (reporting_for request old.writers.reports.items) request.choice (Some request.upkeep) merged
 
 -- the status is that of the verdict of this merge of what was read; the log, the other outputs, the lines on what is
 -- for later merges and on what happened, and the summary were written

@@ -44,5 +44,6 @@ fn fault_name(fault: Fault) -> &'static str
         Fault::EmptyMatch => "EmptyMatch",
         Fault::NeedsToday => "NeedsToday",
         Fault::NotSuccessful => "NotSuccessful",
+        Fault::NoHit => "NoHit",
     }
 }

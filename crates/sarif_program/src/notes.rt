@@ -108,15 +108,33 @@ fn lines_of(alloc: Global, life: &Life) -> Result<String, AllocError>
     Ok(lines)
 }
 
+/// Returns how many hits are alike, if not all hits are chosen, and how many stay.
+fn left_text(alloc: Global, alike: Option<u32>, stay: u32) -> Result<String, AllocError>
+    ensures { IfOk result (λ s. string_bytes s ≡ said.left_text alike stay) }
+{
+    match alike {
+        Some(number) => format!(in alloc; "{number} alike, {stay}"),
+        None => format!(in alloc; "{stay}"),
+    }
+}
+
+/// Returns the line on a new suppression file, with `left` for the hits that are left.
+fn file_with(alloc: Global, file: &NewFile, left: &str) -> Result<String, AllocError>
+    ensures { IfOk result (λ s. string_bytes s ≡ said.file_with file.now left.now) }
+{
+    let accepted = file.accepted;
+    let (pruned, entries) = (file.pruned, file.entries);
+    format!(in alloc;
+        "sarif_gate: {accepted} accepted, {left} stay, {pruned} pruned, {entries} entries\n"
+    )
+}
+
 /// Returns the line on a new suppression file.
 fn file_line(alloc: Global, file: &NewFile) -> Result<String, AllocError>
     ensures { IfOk result (λ s. string_bytes s ≡ said.file_line file.now) }
 {
-    let (accepted, stay) = (file.accepted, file.stay);
-    let (pruned, entries) = (file.pruned, file.entries);
-    format!(in alloc;
-        "sarif_gate: {accepted} accepted, {stay} stay, {pruned} pruned, {entries} entries\n"
-    )
+    let left = left_text(alloc, file.alike, file.stay)?;
+    file_with(alloc, file, left.as_str())
 }
 
 /// Returns the line on a known log.

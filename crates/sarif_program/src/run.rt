@@ -98,10 +98,10 @@ fn merge_told<
     requires room { HaveRoom readers.old }
     requires tells { Tell.IsAlwaysCallable tell }
     ensures merged { IfOk result (λ all. IsMergedWith R.remaining readers.old readers.new
-        «request».now.options made.now (Some «request».now.upkeep) all.0) }
+        «request».now.options made.now «request».now.choice (Some «request».now.upkeep) all.0) }
     ensures told { IfOk result (λ all. IsMadeBy Tell.FnOnce tell all.0 (Ok all.1)) }
     ensures refused { IfErr result (IsRefusedWith R.remaining readers.old readers.new
-        «request».now.options (Some «request».now.upkeep)) }
+        «request».now.options «request».now.choice (Some «request».now.upkeep)) }
     ensures read_failed { RisesIf (read_failed_in result)
         (failures readers.old) (failures readers.new) }
     ensures risen { NoNumberFalls readers.old readers.new }
@@ -112,6 +112,7 @@ fn merge_told<
         options: &request.options,
         reporting,
         upkeep: Some(&request.upkeep),
+        choice: request.choice.as_ref(),
     };
     merge_readers(rt, alloc, readers, &asked, &NoGate, tell)
 }
@@ -128,7 +129,7 @@ fn merge_for<R: Read, W, T: Threads + Wait + Sync>(
     requires room { HaveRoom readers.old }
     ensures merged { IfOk result (λ all. IsMergedWith R.remaining readers.old readers.new
         «request».now.options (reporting_for «request».now writers.now)
-        (Some «request».now.upkeep) all.0) }
+        «request».now.choice (Some «request».now.upkeep) all.0) }
     ensures summary { IfOk result (λ all. all.1.summary
         ≡ summary_of (count_at all.0.counts) «request».now.options.policy) }
     ensures lines { IfOk result (λ all. all.1.lines ≡ lines_for «request».now all.0) }
@@ -136,7 +137,7 @@ fn merge_for<R: Read, W, T: Threads + Wait + Sync>(
         ≡ texts_for writers.now (report_for «request».now all.0)) }
     ensures refused { IfErr result (λ fault. (fault.cause ≡ OutOfMemory → ⊥)
         → IsRefusedWith R.remaining readers.old readers.new «request».now.options
-        (Some «request».now.upkeep) fault) }
+        «request».now.choice (Some «request».now.upkeep) fault) }
     ensures read_failed { RisesIf (read_failed_in result)
         (failures readers.old) (failures readers.new) }
     ensures risen { NoNumberFalls readers.old readers.new }

@@ -86,27 +86,27 @@ notes_few without unused w u =
     (line_few 45 unused _ (counted_few 10 35 unused _ _ (ten unused u) (omega arith) (omega arith)))
 
 more_by : (all none : Bool) (n hits : ℕ) → n < 2 ^ 64 → hits < 2 ^ 64
-    → length (if all then more_hits n else (if none then more_others n else more_of_both n hits)) ≤ 100
-more_by true none n hits m h = counted_few 20 80 n _ _ (twenty n m) (omega arith) (omega arith)
-more_by false true n hits m h = counted_few 20 80 n _ _ (twenty n m) (omega arith) (omega arith)
+    → length (if all then more_hits n else (if none then more_others n else more_of_both n hits)) ≤ 92
+more_by true none n hits m h = counted_few 20 72 n _ _ (twenty n m) (omega arith) (omega arith)
+more_by false true n hits m h = counted_few 20 72 n _ _ (twenty n m) (omega arith) (omega arith)
 more_by false false n hits m h =
-    two 20 80 (decimal n) _ (twenty n m) (two 40 40 (codes " more results are in the merged log, ") _ (omega arith)
-    (counted_few 20 20 hits _ _ (twenty hits h) (omega arith) (omega arith)))
+    two 20 72 (decimal n) _ (twenty n m) (two 37 35 (codes " more results are in the merged log, ") _ (omega arith)
+    (counted_few 20 15 hits _ _ (twenty hits h) (omega arith) (omega arith)))
 
-more_few : (n hits : ℕ) → n < 2 ^ 64 → hits < 2 ^ 64 → length (more_text n hits) ≤ 100
+more_few : (n hits : ℕ) → n < 2 ^ 64 → hits < 2 ^ 64 → length (more_text n hits) ≤ 92
 more_few n hits m h = more_by (hits == n) (hits == 0) n hits m h
 
-others_few : (others : List Finding) → length others < 2 ^ 64 → length (others_line others) ≤ 101
+others_few : (others : List Finding) → length others < 2 ^ 64 → length (others_line others) ≤ 93
 others_few others m =
     let h = hits_few others in
-    line_few 100 (length others) _ (more_few (length others) _ m (omega (arith, m, h)))
+    line_few 92 (length others) _ (more_few (length others) _ m (omega (arith, m, h)))
 
-accept_few : (hits : ℕ) → length (paragraph (accept_line hits)) ≤ 150
+accept_few : (hits : ℕ) → length (paragraph (accept_line hits)) ≤ 182
 unfolding accept_line
 accept_few hits =
-    paragraph_few 149 (accept_line hits) (line_few 148 hits (accept_text (codes "`") (codes "`") hits)
-    (two 10 138 (codes "To accept ") _ (omega arith)
-    (two 12 126 (if hits == 1 then codes "this hit" else codes "these hits") _
+    paragraph_few 181 (accept_line hits) (line_few 180 hits (accept_text (codes "`") (codes "`") hits)
+    (two 10 170 (codes "To accept ") _ (omega arith)
+    (two 12 158 (if hits == 1 then codes "this hit" else codes "these hits") _
     (noun_few (hits == 1) 12 (codes "this hit") (codes "these hits") (omega arith) (omega arith)) (omega arith))))
 
 unshown_few : (unshown : ℕ) → unshown < 2 ^ 36 → length (paragraph (unshown_line unshown)) ≤ 41
@@ -115,8 +115,8 @@ unshown_few unshown small =
     paragraph_few 40 (unshown_line unshown) (line_few 39 unshown (unshown_text unshown)
     (counted_few 11 28 unshown _ _ (length-decimal-le 11 unshown (omega arith) (omega (arith, small)) (omega (arith, small))) (omega arith) (omega arith)))
 
-last_few : (unshown hits : ℕ) → unshown < 2 ^ 36 → length (last_lines unshown hits) ≤ 191
-last_few unshown hits small = two 41 150 (paragraph (unshown_line unshown)) (paragraph (accept_line hits)) (unshown_few unshown small) (accept_few hits)
+last_few : (unshown hits : ℕ) → unshown < 2 ^ 36 → length (last_lines unshown hits) ≤ 223
+last_few unshown hits small = two 41 182 (paragraph (unshown_line unshown)) (paragraph (accept_line hits)) (unshown_few unshown small) (accept_few hits)
 
 -- ---- the counts
 
@@ -153,15 +153,15 @@ counts_few count small =
 
 -- ---- the whole report
 
-table_few : (link : Option (List ℕ)) (fs : List Finding) → length fs < 2 ^ 64 → length (table_of link fs) ≤ 60210
+table_few : (link : Option (List ℕ)) (fs : List Finding) → length fs < 2 ^ 64 → length (table_of link fs) ≤ 60184
 table_few link fs small =
     let parts = results_parted link fs in
-    two 100 60110 (codes "\n| hit | level | place | rule | message | tool | state |\n|---|---|---|---|---|---|---|\n")
+    two 90 60094 (codes "\n| hit | level | place | rule | message | tool | state |\n|---|---|---|---|---|---|---|\n")
     (flat_map (row_text link) (in_table link fs) ++ paragraph (others_line (left_out link fs)))
-    (omega arith) (two 60000 110 (flat_map (row_text link) (in_table link fs)) (paragraph (others_line (left_out link fs))) (table_fits link fs)
-    (let more = paragraph_few 101 (others_line (left_out link fs)) (others_few (left_out link fs) (omega (arith, parts, small))) in omega (arith, more)))
+    (omega arith) (two 60000 94 (flat_map (row_text link) (in_table link fs)) (paragraph (others_line (left_out link fs))) (table_fits link fs)
+    (paragraph_few 93 (others_line (left_out link fs)) (others_few (left_out link fs) (omega (arith, parts, small)))))
 
-results_by : (b : Bool) (link : Option (List ℕ)) (fs : List Finding) → length fs < 2 ^ 64 → length (if b then [] else table_of link fs) ≤ 60210
+results_by : (b : Bool) (link : Option (List ℕ)) (fs : List Finding) → length fs < 2 ^ 64 → length (if b then [] else table_of link fs) ≤ 60184
 results_by true link fs small = omega arith
 results_by false link fs small = table_few link fs small
 
@@ -204,12 +204,12 @@ report_few facts small =
     let results : List ℕ = results_table facts.link facts.findings ++ ends in
     let noted : List ℕ = paragraph (notes facts.without facts.unused) ++ results in
     let whole =
-    two 70 60923 (heading (verdict_of facts.count facts.policy) hits facts.policy.max) (counts_table facts.count ++ noted)
+    two 70 60929 (heading (verdict_of facts.count facts.policy) hits facts.policy.max) (counts_table facts.count ++ noted)
     (heading_few (verdict_of facts.count facts.policy) hits facts.policy.max (omega (arith, few)) small.max)
-    (two 400 60523 (counts_table facts.count) noted (counts_few facts.count small.counts)
-    (two 122 60401 (paragraph (notes facts.without facts.unused)) results
+    (two 400 60529 (counts_table facts.count) noted (counts_few facts.count small.counts)
+    (two 122 60407 (paragraph (notes facts.without facts.unused)) results
     (paragraph_few 121 (notes facts.without facts.unused) (notes_few facts.without facts.unused small.without small.unused))
-    (two 60210 191 (results_table facts.link facts.findings) ends (results_by (length facts.findings == 0) facts.link facts.findings small.findings)
+    (two 60184 223 (results_table facts.link facts.findings) ends (results_by (length facts.findings == 0) facts.link facts.findings small.findings)
     (last_few unshown hits (all_unshown facts.show facts.count facts.policy small.counts))))) in
     omega (arith, whole)
 

@@ -1,18 +1,19 @@
 -- What a request has for a new suppression file, since options go together.
-use Rattle.std.proofs.Common.{◌≡◌, ◌∙◌, ◌≤◌, ℕ, Bool, true, false, not, ◌&&◌, ◌||◌, nat_lt, List, Option, Some, None, Ok, IfSome, is_some, codes, refl, sym, ap, subst, arith, if◌then◌else◌, true≢false}
+use Rattle.std.proofs.Common.{◌≡◌, ◌∙◌, ◌≤◌, ℕ, Bool, true, false, not, ◌&&◌, ◌||◌, nat_lt, List, Option, Some, None, Ok, IfSome, is_some, codes, refl, sym, ap, ap₂, subst, arith, if◌then◌else◌, true≢false}
 use Rattle.std.proofs.lemmas.Bool.Decides.{nat_tests}
 use Rattle.std.specs.Option.{option_or}
 use Rattle.clap.specs.Words.{Row, Text, first_of, matches_of, one_of}
+use Rattle.sarif_choice.specs.declared.choice.Choosing.{Choosing}
 use Rattle.sarif_options.specs.declared.upkeep.Renewal.{Renewal}
 use Rattle.sarif_entries.specs.Entries.{is_day}
 use Rattle.sarif_request.specs.declared.request.Request.{Request}
 use Rattle.sarif_request.specs.declared.together.GivenOptions.{GivenOptions}
 use Rattle.sarif_request.specs.declared.together.Misfit.{Misfit}
-use Rattle.sarif_request.specs.declared.together.Misfit.TheVariants.{AcceptNeedsFile, PruneNeedsFile, FileNeedsChange, PruneNeedsEntries, ReasonNeedsAccept, UntilIsNoDate, UntilIsPast, UntilNeedsAccept, UntilNeedsToday}
+use Rattle.sarif_request.specs.declared.together.Misfit.TheVariants.{AcceptNeedsFile, PruneNeedsFile, FileNeedsChange, PlaceNeedsAccept, PruneNeedsEntries, ReasonNeedsAccept, RuleNeedsAccept, UntilIsNoDate, UntilIsPast, UntilNeedsAccept, UntilNeedsToday}
 use Rattle.sarif_request.specs.Command.{program}
 use Rattle.sarif_request.specs.Dates.{IsNotPast}
 use Rattle.sarif_request.specs.Together.{date_misfit, lacks, misfit_of, until_misfit, upkeep_misfit}
-use Rattle.sarif_request.specs.Words.{GivesRequest, AreGiven, IsReadNumber, IsRenewal, is_given, is_set}
+use Rattle.sarif_request.specs.Words.{GivesRequest, AreGiven, IsReadNumber, IsRenewal, choice_in, choosing_in, is_given, is_set}
 
 -- if nothing is wrong, the first test fails, and nothing is wrong after it
 past : (b : Bool) (why : Misfit) (rest : Option Misfit) → (if b then Some why else rest) ≡ None → (b ≡ false) × (rest ≡ None)
@@ -53,18 +54,28 @@ date_fits (Some until) (Some today) is =
     let later = past (nat_lt until today) UntilIsPast None dated.1 in
     (is_true (is_day until) dated.0, today, refl, not_less until today later.0)
 
+-- options that add entries, or choose hits for them, have what they need
+record HaveNeeded (given : GivenOptions) : Type 0 where
+  file : lacks given.accept given.suppress_out ≡ false
+  change : lacks given.suppress_out (given.accept || given.prune) ≡ false
+  reason : lacks given.reason given.accept ≡ false
+  at : lacks given.at given.accept ≡ false
+  rule : lacks given.rule given.accept ≡ false
+
 module _ (given : GivenOptions) (none : misfit_of given ≡ None) where
   parts : (upkeep_misfit given ≡ None) × (until_misfit given ≡ None)
   parts = both_none (upkeep_misfit given) (until_misfit given) none
 
-  changes_and_reason : (lacks given.suppress_out (given.accept || given.prune) ≡ false) × (lacks given.reason given.accept ≡ false)
-  changes_and_reason =
+  upkeep : HaveNeeded given
+  upkeep =
       let accept = past (lacks given.accept given.suppress_out) AcceptNeedsFile _ parts.0 in
       let prune = past (lacks given.prune given.suppress_out) PruneNeedsFile _ accept.1 in
       let change = past (lacks given.suppress_out (given.accept || given.prune)) FileNeedsChange _ prune.1 in
       let entries = past (lacks given.prune given.suppress) PruneNeedsEntries _ change.1 in
       let reason = past (lacks given.reason given.accept) ReasonNeedsAccept _ entries.1 in
-      (change.0, reason.0)
+      let at = past (lacks given.at given.accept) PlaceNeedsAccept _ reason.1 in
+      let rule = past (lacks given.rule given.accept) RuleNeedsAccept _ at.1 in
+      record { file = accept.0; change = change.0; reason = reason.0; at = at.0; rule = rule.0 }
 
   date : (lacks (is_some given.until) given.accept ≡ false) × (date_misfit given.until given.today ≡ None)
   date = past (lacks (is_some given.until) given.accept) UntilNeedsAccept (date_misfit given.until given.today) parts.1
@@ -84,7 +95,7 @@ changing : (rows : List Row) (given : GivenOptions) (renewal : Option Renewal) �
 changing rows given None are none is = tt
 changing rows given (Some how) are none is =
     let so : (given.accept || given.prune) ≡ true =
-    needed_is given.suppress_out (given.accept || given.prune) (changes_and_reason given none).0 (are.suppress_out ∙ is.0) in
+    needed_is given.suppress_out (given.accept || given.prune) (upkeep given none).change (are.suppress_out ∙ is.0) in
     rw (is.1.accept, is.1.prune, sym are.accept, sym are.prune) so
 
 reasoned : (rows : List Row) (given : GivenOptions) (how : Renewal) (reason : Option Text) → AreGiven rows given → misfit_of given ≡ None
@@ -92,7 +103,7 @@ reasoned : (rows : List Row) (given : GivenOptions) (how : Renewal) (reason : Op
     → reason ≡ first_of (codes "reason") rows → IfSome reason (λ _. how.accept ≡ true)
 reasoned rows given how None are none accept is = tt
 reasoned rows given how (Some text) are none accept is =
-    accept ∙ sym are.accept ∙ needed_is given.reason given.accept (changes_and_reason given none).1 (are.reason ∙ ap is_some (sym is))
+    accept ∙ sym are.accept ∙ needed_is given.reason given.accept (upkeep given none).reason (are.reason ∙ ap is_some (sym is))
 
 until_given : (rows : List Row) (given : GivenOptions) (how : Renewal) (until : Option ℕ) → AreGiven rows given → misfit_of given ≡ None
     → how.accept ≡ is_set (codes "accept") rows
@@ -100,6 +111,32 @@ until_given : (rows : List Row) (given : GivenOptions) (how : Renewal) (until : 
 until_given rows given how None are none accept is = tt
 until_given rows given how (Some last) are none accept is =
     accept ∙ sym are.accept ∙ needed_is (is_some given.until) given.accept (date given none).0 (ap is_some is)
+
+-- a place or a rule is given if hits are chosen, and either needs `--accept`
+one_given : (at rule : Bool) (all choosing : Choosing) → Some choosing ≡ (if at || rule then Some all else None) → (at || rule) ≡ true
+one_given true rule all choosing is = refl
+one_given false true all choosing is = refl
+one_given false false all choosing is = absurd (let e : Some choosing ≡ None = is in cc)
+
+either_needs : (at rule accept : Bool) → lacks at accept ≡ false → lacks rule accept ≡ false → (at || rule) ≡ true → accept ≡ true
+either_needs true rule accept place named is = needed_is true accept place refl
+either_needs false rule accept place named is = needed_is rule accept named is
+
+accepting : (rows : List Row) (given : GivenOptions) (renewal : Option Renewal) → AreGiven rows given → misfit_of given ≡ None
+    → given.accept ≡ true → IsRenewal rows renewal → (how : Renewal) × (renewal ≡ Some how) × (how.accept ≡ true)
+accepting rows given None are none accept is =
+    absurd (true≢false (sym (needed_is given.accept given.suppress_out (upkeep given none).file accept) ∙ are.suppress_out ∙ is))
+accepting rows given (Some how) are none accept is = (how, refl, is.1.accept ∙ sym are.accept ∙ accept)
+
+each_choice : (rows : List Row) (given : GivenOptions) (choice : Option Choosing) (renewal : Option Renewal) → AreGiven rows given
+    → misfit_of given ≡ None → choice ≡ choice_in rows → IsRenewal rows renewal
+    → IfSome choice (λ _. (how : Renewal) × (renewal ≡ Some how) × (how.accept ≡ true))
+each_choice rows given None renewal are none is renews = tt
+each_choice rows given (Some choosing) renewal are none is renews =
+    let one : (given.at || given.rule) ≡ true =
+    ap₂ (λ a b. a || b) are.at are.rule ∙ one_given (is_given (codes "at") rows) (is_given (codes "rule") rows) (choosing_in rows) choosing is in
+    accepting rows given renewal are none
+    (either_needs given.at given.rule given.accept (upkeep given none).at (upkeep given none).rule one) renews
 
 pub not_past : (words : List (List ℕ)) (request : Request) → GivesRequest words (Ok request)
     → IfSome request.upkeep.renewal (λ renewal. IsNotPast request.options.today renewal.until)
@@ -133,3 +170,8 @@ pub expiring : (words : List (List ℕ)) (request : Request) → GivesRequest wo
     → IfSome request.upkeep.renewal (λ renewal. IfSome renewal.until (λ _. renewal.accept ≡ true))
 expiring words request (levels, named, sound, asks, (given, are, none), apart) =
     each_date (matches_of (program levels) words) given request.upkeep.renewal are none asks.renewal
+
+pub chosen_accepted : (words : List (List ℕ)) (request : Request) → GivesRequest words (Ok request)
+    → IfSome request.choice (λ _. (how : Renewal) × (request.upkeep.renewal ≡ Some how) × (how.accept ≡ true))
+chosen_accepted words request (levels, named, sound, asks, (given, are, none), apart) =
+    each_choice (matches_of (program levels) words) given request.choice request.upkeep.renewal are none asks.choice asks.renewal

@@ -84,6 +84,8 @@ arguments =
     ∷ argument (codes "prune") Flag
     ∷ argument (codes "reason") Once
     ∷ argument (codes "until") (Number (pos first_day) (pos last_day))
+    ∷ argument (codes "at") Many
+    ∷ argument (codes "rule") Many
     ∷ argument (codes "adopt") Flag
     ∷ with_default (codes "4") (argument (codes "workers") (Number (pos 1) (pos most_workers)))
     ∷ argument (codes "explain") Flag

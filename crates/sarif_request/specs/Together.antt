@@ -4,7 +4,7 @@ use Rattle.std.specs.Option.{option_or}
 use Rattle.sarif_entries.specs.Entries.{is_day}
 use Rattle.sarif_request.specs.declared.together.GivenOptions.{GivenOptions}
 use Rattle.sarif_request.specs.declared.together.Misfit.{Misfit}
-use Rattle.sarif_request.specs.declared.together.Misfit.TheVariants.{AcceptNeedsFile, PruneNeedsFile, FileNeedsChange, PruneNeedsEntries, ReasonNeedsAccept, UnusedNeedsEntries, KnownWithAccept, AdoptNeedsKnown, UntilNeedsAccept, UntilNeedsToday, UntilIsNoDate, UntilIsPast}
+use Rattle.sarif_request.specs.declared.together.Misfit.TheVariants.{AcceptNeedsFile, PruneNeedsFile, FileNeedsChange, PruneNeedsEntries, ReasonNeedsAccept, PlaceNeedsAccept, RuleNeedsAccept, UnusedNeedsEntries, KnownWithAccept, AdoptNeedsKnown, UntilNeedsAccept, UntilNeedsToday, UntilIsNoDate, UntilIsPast}
 
 -- an option is given without the one that it needs
 abbrev pub lacks : Bool → Bool → Bool
@@ -18,10 +18,12 @@ upkeep_misfit given =
     if lacks given.suppress_out (given.accept || given.prune) then Some FileNeedsChange else (
     if lacks given.prune given.suppress then Some PruneNeedsEntries else (
     if lacks given.reason given.accept then Some ReasonNeedsAccept else (
+    if lacks given.at given.accept then Some PlaceNeedsAccept else (
+    if lacks given.rule given.accept then Some RuleNeedsAccept else (
     if lacks given.unused given.suppress then Some UnusedNeedsEntries else (
     if given.known && given.accept then Some KnownWithAccept else (
     if lacks given.adopt given.known then Some AdoptNeedsKnown else (
-    None))))))))
+    None))))))))))
 
 -- an expiry date is a date as entries have it, and not before today's, which it needs
 abbrev pub date_misfit : Option ℕ → Option ℕ → Option Misfit

@@ -1,13 +1,13 @@
 -- What the arguments of the command line request, and the result if they make no request.
-use Rattle.std.specs.Prelude.{◌≡◌, ◌≢◌, ◌==◌, ℕ, Bool, true, false, is_some, List, [], ◌∷◌, flat_map, Option, Some, None, Result, Ok, Err, unwrap_or, option_and_then, option_map, codes, bytes_eq, min, max, ◌<◌, ◌^◌, ◌⊎◌, ⊤, if◌then◌else◌}
+use Rattle.std.specs.Prelude.{◌≡◌, ◌≢◌, ◌==◌, ℕ, Bool, true, false, is_some, List, [], ◌∷◌, flat_map, Option, Some, None, Result, Ok, Err, unwrap_or, option_and_then, option_map, codes, bytes_eq, min, max, ◌<◌, ◌^◌, ◌⊎◌, ◌||◌, ⊤, if◌then◌else◌}
 use Rattle.std.specs.Borrow.{Bor}
 use Rattle.std.specs.Option.{option_map_or}
 use Rattle.std.specs.Str.Parse.{IsNumeral, digits_value, without_leading_plus}
 use Rattle.clap.specs.Words.{App, IsAmong, Row, Text, all_of, first_of, one_of, fault_of, matches_of}
 use Rattle.clap.specs.declared.error.kind.ErrorKind.{ErrorKind}
 use Rattle.clap.specs.declared.error.kind.ErrorKind.TheVariants as kind
-use Rattle.sarif_match.specs.declared.version.MatchingVersion.{MatchingVersion}
-use Rattle.sarif_match.specs.declared.version.MatchingVersion.TheVariants.{Two, Three}
+use Rattle.sarif_evidence.specs.declared.version.MatchingVersion.{MatchingVersion}
+use Rattle.sarif_evidence.specs.declared.version.MatchingVersion.TheVariants.{Two, Three}
 use Rattle.sarif_model.specs.declared.kinds.Level.{Level}
 use Rattle.sarif_model.specs.Level.{level_named}
 use Rattle.sarif_model.specs.Limits.{most_workers}
@@ -17,6 +17,7 @@ use Rattle.sarif_options.specs.declared.upkeep.Knowing.TheVariants.{Adopted, Mat
 use Rattle.sarif_options.specs.declared.upkeep.Renewal.{Renewal}
 use Rattle.sarif_options.specs.Policy.{default_policy}
 use Rattle.sarif_links.specs.Template.{template_of}
+use Rattle.sarif_choice.specs.declared.choice.Choosing.{Choosing}
 use Rattle.sarif_findings.specs.declared.reporting.Show.{Show}
 use Rattle.sarif_findings.specs.declared.reporting.Show.TheVariants.{All}
 use Rattle.sarif_reports.specs.declared.report.Report.{Report}
@@ -149,6 +150,21 @@ abbrev pub known_in : List Row → Option Knowing
 known_in rows = if is_given (codes "known") rows
     then Some (if is_set (codes "adopt") rows then Adopted else Matched) else None
 
+-- the places and the rules by which hits are chosen, and the prefixes that are stripped from their paths
+abbrev pub choosing_in : List Row → Choosing
+choosing_in rows = record {
+  choice = record {
+    places = values_of (codes "at") rows;
+    rules = values_of (codes "rule") rows;
+  };
+  roots = values_of (codes "root") rows;
+}
+
+-- which hits are accepted, if a place or a rule is given; otherwise all are
+abbrev pub choice_in : List Row → Option Choosing
+choice_in rows = if is_given (codes "at") rows || is_given (codes "rule") rows
+    then Some (choosing_in rows) else None
+
 -- which options are given of those that need each other
 pub record AreGiven (rows : List Row) (given : GivenOptions) : Type 0 where
   pub suppress : given.suppress ≡ is_given (codes "suppress") rows
@@ -157,6 +173,8 @@ pub record AreGiven (rows : List Row) (given : GivenOptions) : Type 0 where
   pub prune : given.prune ≡ is_set (codes "prune") rows
   pub reason : given.reason ≡ is_given (codes "reason") rows
   pub until : IsReadNumber (one_of (codes "until") rows) given.until
+  pub at : given.at ≡ is_given (codes "at") rows
+  pub rule : given.rule ≡ is_given (codes "rule") rows
   pub today : IsReadNumber (one_of (codes "today") rows) given.today
   pub unused : given.unused ≡ is_given (codes "unused") rows
   pub known : given.known ≡ is_given (codes "known") rows
@@ -177,6 +195,7 @@ pub record AsksFor (rows : List Row) (request : Request) : Type 0 where
   pub renewal : IsRenewal rows request.upkeep.renewal
   pub unused : request.upkeep.unused ≡ is_given (codes "unused") rows
   pub known : request.upkeep.known ≡ known_in rows
+  pub choice : request.choice ≡ choice_in rows
   pub today : IsReadNumber (one_of (codes "today") rows) request.options.today
   pub require_success : request.options.checks.require_success
       ≡ is_set (codes "require-success") rows

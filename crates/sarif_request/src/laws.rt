@@ -1,5 +1,6 @@
 //! Laws of requests, each the contract of a function that does nothing.
-ghost use Rattle.std.specs.Prelude.{◌≡◌, ◌||◌, ℕ, Bool, true, List, Ok, IfSome};
+ghost use Rattle.std.specs.Prelude.{◌≡◌, ◌||◌, ℕ, Bool, true, List, Ok, IfSome, Some};
+ghost use Rattle.sarif_options.specs.declared.upkeep.Renewal.{Renewal};
 ghost use Rattle.sarif_request.specs.declared.request.Request.{Request};
 ghost use Rattle.sarif_request.specs.Dates.{IsNotPast};
 ghost use Rattle.sarif_request.specs.Terminal.{at_terminal, no_terminal};
@@ -14,7 +15,8 @@ pub fn expiry_dates_are_not_past()
 {}
 
 /// If the arguments request a new suppression file, it is changed: results are accepted, entries are dropped, or both.
-/// Only entries that are added have a justification or an expiry date.
+/// Only entries that are added have a justification or an expiry date. If they choose among the hits, there is a new
+/// suppression file for which hits are accepted.
 pub fn requested_renewals_are_sound()
     ensures changes { (words : List (List ℕ)) (request : Request) → GivesRequest words (Ok request)
         → IfSome request.upkeep.renewal
@@ -25,6 +27,9 @@ pub fn requested_renewals_are_sound()
     ensures expiring { (words : List (List ℕ)) (request : Request) → GivesRequest words (Ok request)
         → IfSome request.upkeep.renewal
         (λ renewal. IfSome renewal.until (λ _. renewal.accept ≡ true)) }
+    ensures choosing { (words : List (List ℕ)) (request : Request) → GivesRequest words (Ok request)
+        → IfSome request.choice (λ _. (how : Renewal)
+        × (request.upkeep.renewal ≡ Some how) × (how.accept ≡ true)) }
 {}
 
 /// If no standard stream is a terminal, the request that is served is the one that the arguments give, regardless of

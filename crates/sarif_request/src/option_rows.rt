@@ -80,7 +80,7 @@ pub fn is_date(kind: OptionKind) -> bool {
     kind == DATE
 }
 
-static ROWS: [OptionRow; 25] = [
+static ROWS: [OptionRow; 27] = [
     OptionRow {
         id: "log",
         value: "LOG",
@@ -257,6 +257,23 @@ static ROWS: [OptionRow; 25] = [
             Needs --today, which must not be after it",
         group: Group::Upkeep,
         kind: DATE,
+        default: None,
+    },
+    OptionRow {
+        id: "at",
+        value: "PLACE",
+        help: "Accept only hits at this place: PATH, PATH:LINE or PATH:LINE:COLUMN as\n\
+            --text prints it. May be repeated. Needs --accept",
+        group: Group::Upkeep,
+        kind: OptionKind::Many,
+        default: None,
+    },
+    OptionRow {
+        id: "rule",
+        value: "ID",
+        help: "Accept only hits of this rule. May be repeated. Needs --accept",
+        group: Group::Upkeep,
+        kind: OptionKind::Many,
         default: None,
     },
     OptionRow {

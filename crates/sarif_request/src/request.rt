@@ -1,6 +1,7 @@
 //! The request of one run of the program.
 
 use crate::wanted::RequestedOutput;
+use sarif_choice::Choosing;
 use sarif_findings::Show;
 use sarif_links::Template;
 use sarif_model::Text;
@@ -34,6 +35,8 @@ pub struct Request {
     pub screen: Option<Screen>,
     /// What is made for later merges.
     pub upkeep: Upkeep,
+    /// Which hits are accepted, if not all are. It has a copy of the prefixes in `roots`.
+    pub choice: Option<Choosing>,
     /// How they are merged.
     pub options: Options,
 }

@@ -19,6 +19,10 @@ pub struct GivenOptions {
     pub reason: bool,
     /// The expiry date of added entries as YYYYMMDD.
     pub until: Option<u32>,
+    /// The places of accepted hits.
+    pub at: bool,
+    /// The rules of accepted hits.
+    pub rule: bool,
     /// Today's date as YYYYMMDD.
     pub today: Option<u32>,
     /// The list of unused entries.
@@ -42,6 +46,10 @@ pub enum Misfit {
     PruneNeedsEntries,
     /// There are no entries to justify.
     ReasonNeedsAccept,
+    /// No hits are accepted, at these places or elsewhere.
+    PlaceNeedsAccept,
+    /// No hits are accepted, of these rules or others.
+    RuleNeedsAccept,
     /// There are no entries to list.
     UnusedNeedsEntries,
     /// A known log does not know what the same merge accepts.
@@ -67,6 +75,8 @@ impl Misfit {
             Misfit::FileNeedsChange => "--suppress-out needs --accept, --prune or both",
             Misfit::PruneNeedsEntries => "--prune needs --suppress",
             Misfit::ReasonNeedsAccept => "--reason needs --accept",
+            Misfit::PlaceNeedsAccept => "--at needs --accept",
+            Misfit::RuleNeedsAccept => "--rule needs --accept",
             Misfit::UnusedNeedsEntries => "--unused needs --suppress",
             Misfit::KnownWithAccept =>
                 "--known and --accept cannot be used together: the next merge knows what was accepted",
@@ -102,6 +112,10 @@ fn upkeep_misfit(given: &GivenOptions) -> Option<Misfit>
         Some(Misfit::PruneNeedsEntries)
     } else if given.reason && !given.accept {
         Some(Misfit::ReasonNeedsAccept)
+    } else if given.at && !given.accept {
+        Some(Misfit::PlaceNeedsAccept)
+    } else if given.rule && !given.accept {
+        Some(Misfit::RuleNeedsAccept)
     } else if given.unused && !given.suppress {
         Some(Misfit::UnusedNeedsEntries)
     } else if given.known && given.accept {

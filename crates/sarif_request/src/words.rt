@@ -1,13 +1,16 @@
 //! Reading the arguments of the command line.
-ghost use Rattle.std.specs.Prelude.{◌≡◌, ◌↔◌, ◌++◌, IfOk, IsTrue, OnOk, [], Some, map, unwrap_or, string_bytes, option_and_then, option_map, codes};
+ghost use Rattle.std.specs.Prelude.{◌≡◌, ◌↔◌, ◌++◌, IfOk, IsTrue, OnOk, [], Some, map, unwrap_or};
+ghost use Rattle.std.specs.Prelude.{string_bytes, option_and_then, option_map, codes};
 ghost use Rattle.clap.specs.Words.{kind_of, rows_of, found_of, first_of, one_of};
 ghost use Rattle.sarif_model.specs.Level.{level_named};
 ghost use Rattle.sarif_options.specs.Policy.{default_policy};
-ghost use Rattle.sarif_request.specs.Words.{words_status, ReportsError, IsAsked, AsksFor, GivesRequest, IsReadNumber, IsReadOr, IsUsageOrOutOfMemory, IsVersion};
+ghost use Rattle.sarif_request.specs.Words.{words_status, ReportsError, IsAsked, AsksFor, GivesRequest};
+ghost use Rattle.sarif_request.specs.Words.{IsReadNumber, IsReadOr, IsUsageOrOutOfMemory, IsVersion};
+ghost use Rattle.sarif_request.specs.Words.{fail_on_in, is_set, link_in, reports_in, show_in, states_in};
+ghost use Rattle.sarif_request.specs.Words.{values_of, AreGiven, IsRenewal, is_given, known_in, wanted_if};
 ghost use Rattle.sarif_links.specs.Template.{template_of};
-ghost use Rattle.sarif_request.specs.Words.{fail_on_in, is_set, link_in, reports_in, show_in, states_in, values_of};
 ghost use Rattle.sarif_reports.specs.Report.{report_name};
-ghost use Rattle.sarif_request.specs.Words.{AreGiven, IsRenewal, is_given, known_in, wanted_if};
+ghost use Rattle.sarif_request.specs.Words.{choice_in, choosing_in};
 ghost use Rattle.sarif_request.specs.Words as said;
 
 use crate::clash::{Clash, clash_of};
@@ -20,9 +23,10 @@ use crate::together::{GivenOptions, misfit_of};
 use crate::wanted::RequestedOutput;
 use clap::ArgMatches;
 use clap::error::ErrorKind;
+use sarif_choice::{Choice, Choosing};
+use sarif_evidence::MatchingVersion;
 use sarif_findings::Show;
 use sarif_links::Template;
-use sarif_match::MatchingVersion;
 use sarif_model::{Level, MOST_WORKERS, Sequence, Text};
 use sarif_options::{Checks, Knowing, Options, Policy, Renewal, States, Upkeep};
 use sarif_reports::Report;
@@ -200,6 +204,7 @@ fn request_of(
     let reports = reports_of(alloc, matches)?;
     let roots = names_of(alloc, matches, "root")?;
     let upkeep = upkeep_of(alloc, matches)?;
+    let choice = choice_of(alloc, matches)?;
     let today = number_of(matches, "today");
     let checks = checks_of(alloc, matches)?;
     let options = Options {
@@ -223,6 +228,7 @@ fn request_of(
         explain: is_set(matches, "explain"),
         screen: None,
         upkeep,
+        choice,
         options,
     })
 }
@@ -273,6 +279,31 @@ fn known_of(matches: &ArgMatches<'_>) -> Option<Knowing>
     }
 }
 
+/// Returns which hits are accepted, or `None` if no place and no rule is given.
+fn choice_of(alloc: Global, matches: &ArgMatches<'_>) -> Result<Option<Choosing>, AllocError>
+    ensures { IfOk result (λ choice. choice ≡ choice_in (rows_of (found_of matches.now))) }
+{
+    if !is_given(matches, "at") && !is_given(matches, "rule") {
+        return Ok(None);
+    }
+    let choosing = choosing_of(alloc, matches)?;
+    Ok(Some(choosing))
+}
+
+/// Returns the places and the rules by which hits are chosen, and the prefixes that are stripped from their paths.
+fn choosing_of(alloc: Global, matches: &ArgMatches<'_>) -> Result<Choosing, AllocError>
+    ensures { IfOk result
+        (λ choosing. choosing ≡ choosing_in (rows_of (found_of matches.now))) }
+{
+    let places = values_of(alloc, matches, "at")?;
+    let rules = values_of(alloc, matches, "rule")?;
+    let roots = values_of(alloc, matches, "root")?;
+    Ok(Choosing {
+        choice: Choice { places, rules },
+        roots,
+    })
+}
+
 /// Returns which options are given of those that need each other.
 fn given_of(matches: &ArgMatches<'_>) -> GivenOptions
     ensures { AreGiven (rows_of (found_of matches.now)) result }
@@ -284,6 +315,8 @@ fn given_of(matches: &ArgMatches<'_>) -> GivenOptions
         prune: is_set(matches, "prune"),
         reason: is_given(matches, "reason"),
         until: number_of(matches, "until"),
+        at: is_given(matches, "at"),
+        rule: is_given(matches, "rule"),
         today: number_of(matches, "today"),
         unused: is_given(matches, "unused"),
         known: is_given(matches, "known"),
@@ -405,8 +438,7 @@ fn checks_of(alloc: Global, matches: &ArgMatches<'_>) -> Result<Checks, AllocErr
     ensures ignored { IfOk result (λ checks. checks.ignored
         ≡ values_of (codes "ignore-fingerprint") (rows_of (found_of matches.now))) }
 {
-    let names = names_of(alloc, matches, "ignore-fingerprint")?;
-    let ignored = sequence_of(alloc, names)?;
+    let ignored = values_of(alloc, matches, "ignore-fingerprint")?;
     Ok(Checks {
         require_success: is_set(matches, "require-success"),
         allow_external: is_set(matches, "allow-external-properties"),
@@ -414,6 +446,18 @@ fn checks_of(alloc: Global, matches: &ArgMatches<'_>) -> Result<Checks, AllocErr
         once: is_set(matches, "once"),
         ignored,
     })
+}
+
+/// Returns all values of an argument, as a sequence.
+fn values_of(
+    alloc: Global,
+    matches: &ArgMatches<'_>,
+    id: &str,
+) -> Result<Sequence<Text>, AllocError>
+    ensures { IfOk result (λ s. s ≡ said.values_of id.now (rows_of (found_of matches.now))) }
+{
+    let names = names_of(alloc, matches, id)?;
+    sequence_of(alloc, names)
 }
 
 /// These names in order.

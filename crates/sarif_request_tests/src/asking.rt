@@ -1,6 +1,6 @@
 //! What arguments request.
+use sarif_evidence::MatchingVersion;
 use sarif_findings::Show;
-use sarif_match::MatchingVersion;
 use sarif_model::{Level, Text};
 use sarif_options::{Checks, Options, Policy, States};
 use sarif_reports::Report;
@@ -90,6 +90,7 @@ fn check_plain_options(rt: &impl Abort, request: &Request) -> Result<(), Fail> {
     assert!(rt; request.upkeep.renewal.is_none());
     assert!(rt; !request.upkeep.unused);
     assert_eq!(rt; request.upkeep.known, None);
+    assert!(rt; request.choice.is_none());
     Ok(())
 }
 

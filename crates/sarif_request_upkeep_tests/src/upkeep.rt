@@ -1,4 +1,5 @@
 //! Which arguments request what is made for later merges.
+use sarif_model::Text;
 use sarif_options::{Knowing, Renewal};
 use sarif_reports::Report;
 use sarif_request::Request;
@@ -16,6 +17,7 @@ fn check_nothing(rt: &impl Abort, request: &Request) -> Result<(), Fail> {
     assert!(rt; request.upkeep.renewal.is_none());
     assert!(rt; !request.upkeep.unused);
     assert!(rt; request.upkeep.known.is_none());
+    assert!(rt; request.choice.is_none());
     assert!(rt; request.reports.is_empty());
     Ok(())
 }
@@ -63,6 +65,60 @@ fn reason_of(how: &Renewal) -> Option<&str> {
         Some(reason) => Some(reason.as_str()),
         None => None,
     }
+}
+
+#[test]
+fn places_and_rules_of_accepted_hits_are_read(rt: HostRuntime) -> Result<(), Fail> {
+    let line =
+        "--suppress-out n --at a.c:3 --root r/ --accept --rule= --at - --rule R1 --root= --out o a";
+    let request = accepted(&rt, line)?;
+    check_choice(&rt, &request, &["a.c:3", "-"], &["", "R1"], &["r/", ""])?;
+    let request = accepted(&rt, "--suppress-out n --accept --at=a.c --out o a")?;
+    check_choice(&rt, &request, &["a.c"], &[], &[])?;
+    let request = accepted(
+        &rt,
+        "--suppress-out n --accept --rule R1 --rule R1 --out o a",
+    )?;
+    check_choice(&rt, &request, &[], &["R1", "R1"], &[])
+}
+
+/// Checks the places, the rules and the roots by which hits are chosen.
+fn check_choice(
+    rt: &impl Abort,
+    request: &Request,
+    places: &[&str],
+    rules: &[&str],
+    roots: &[&str],
+) -> Result<(), Fail> {
+    match &request.choice {
+        Some(choosing) => {
+            assert!(rt; are_texts(choosing.choice.places.as_slice(), places));
+            assert!(rt; are_texts(choosing.choice.rules.as_slice(), rules));
+            assert!(rt; are_texts(choosing.roots.as_slice(), roots));
+        }
+        None => panic!(rt; "no hits are chosen"),
+    }
+    Ok(())
+}
+
+/// Returns whether these are exactly the strings.
+fn are_texts(found: &[Text], wanted: &[&str]) -> bool {
+    if found.len() != wanted.len() {
+        return false;
+    }
+    for (one, text) in found.iter().zip(wanted.iter()) {
+        if one.as_str() != *text {
+            return false;
+        }
+    }
+    true
+}
+
+#[test]
+fn all_hits_are_accepted_without_places_and_rules(rt: HostRuntime) -> Result<(), Fail> {
+    let request = accepted(&rt, "--suppress-out n --accept --root r/ --out o a")?;
+    assert!(rt; request.choice.is_none());
+    Ok(())
 }
 
 #[test]
@@ -135,6 +191,13 @@ fn options_that_miss_their_companion_are_usage(rt: HostRuntime) -> Result<(), Fa
             "--suppress s --suppress-out n --prune --until 20260101 --today 20250101",
             "--until needs --accept",
         ),
+        ("--at a.c", "--at needs --accept"),
+        ("--rule R1", "--rule needs --accept"),
+        ("--rule R1 --at a.c", "--at needs --accept"),
+        (
+            "--suppress s --suppress-out n --prune --rule=",
+            "--rule needs --accept",
+        ),
         ("--unused u", "--unused needs --suppress"),
         ("--suppress-out n --prune", "--prune needs --suppress"),
         (
@@ -206,6 +269,8 @@ fn each_word_stands_once(rt: HostRuntime) -> Result<(), Fail> {
         "--known",
         "--suppress s --unused",
         "--suppress-out n --accept --reason",
+        "--suppress-out n --accept --at",
+        "--suppress-out n --accept --rule",
     ] {
         let line = format!(in rt.alloc(); "--out o a {more}")?;
         usage_in(&rt, line.as_str())?;

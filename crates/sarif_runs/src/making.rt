@@ -10,7 +10,7 @@ use crate::head::RunHead;
 use crate::ignoring::without_names;
 use crate::run_options::RecordOptions;
 use sarif_members::{Parts, read_members};
-use sarif_model::{Fault, Place, Record, Refusal, Text, driver_name};
+use sarif_model::{Fault, Place, Record, Refusal, Sequence, Text, driver_name};
 use serde_json::Value;
 use std::alloc::{AllocError, Global};
 
@@ -91,5 +91,6 @@ fn finish_record(
         held: parts.held,
         region,
         snippet,
+        spent: Sequence::new(alloc),
     })
 }

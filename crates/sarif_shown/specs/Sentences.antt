@@ -50,14 +50,30 @@ abbrev pub unshown_text : ℕ → List ℕ
 unshown_text n =
     counted n (codes " other result isn't shown.") (codes " other results aren't shown.")
 
--- how to accept the hits; each part of a command is between `before` and `after`
+-- how to accept one hit; the part of a command is between `before` and `after`
+abbrev pub alone_text : List ℕ → List ℕ → List ℕ
+alone_text before after =
+    before ++ (codes "--at PLACE" ++ (after ++ codes " accepts one alone."))
+
+-- what to pass to later merges, and then how to accept one hit
+abbrev pub later_with : List ℕ → List ℕ → List ℕ → List ℕ
+later_with before after one =
+    before ++ (codes "--suppress FILE" ++ (after ++ (codes " from then on; " ++ one)))
+
+abbrev pub later_text : List ℕ → List ℕ → List ℕ
+later_text before after = later_with before after (alone_text before after)
+
+-- how to accept the hits, or one of them; each part of a command is between `before` and `after`
+abbrev pub accept_with : List ℕ → List ℕ → List ℕ → List ℕ → List ℕ
+accept_with before after them later =
+    codes "To accept " ++ (them ++ (codes ", run the same merge with "
+    ++ (before ++ (codes "--accept --reason TEXT --suppress-out FILE" ++ (after
+    ++ (codes ", review FILE, and pass " ++ later))))))
+
 abbrev pub accept_text : List ℕ → List ℕ → ℕ → List ℕ
 accept_text before after hits =
-    codes "To accept " ++ ((if hits == 1 then codes "this hit" else codes "these hits")
-    ++ (codes ", run the same merge with "
-    ++ (before ++ (codes "--accept --reason TEXT --suppress-out FILE" ++ (after
-    ++ (codes ", review FILE, and pass "
-    ++ (before ++ (codes "--suppress FILE" ++ (after ++ codes " from then on.")))))))))
+    accept_with before after (if hits == 1 then codes "this hit" else codes "these hits")
+    (later_text before after)
 
 -- how many input runs have no results
 abbrev pub runs_text : ℕ → List ℕ

@@ -89,8 +89,47 @@ pub fn unshown_text(alloc: Global, number: u32) -> Result<String, AllocError>
     )
 }
 
-/// Returns how to accept the hits, with each part of a command between `before` and `after`. Returns `AllocError` if
-/// memory runs out.
+/// Returns how to accept one hit, with the part of a command between `before` and `after`.
+fn alone_text(alloc: Global, before: &str, after: &str) -> Result<String, AllocError>
+    ensures { IfOk result (λ s. string_bytes s ≡ said.alone_text before.now after.now) }
+{
+    format!(in alloc; "{before}--at PLACE{after} accepts one alone.")
+}
+
+/// Returns what to pass to later merges, and then `one`.
+fn later_with(alloc: Global, before: &str, after: &str, one: &str) -> Result<String, AllocError>
+    ensures { IfOk result (λ s. string_bytes s ≡ said.later_with before.now after.now one.now) }
+{
+    format!(in alloc; "{before}--suppress FILE{after} from then on; {one}")
+}
+
+/// Returns what to pass to later merges, and how to accept one hit, with each part of a command between `before` and
+/// `after`.
+fn later_text(alloc: Global, before: &str, after: &str) -> Result<String, AllocError>
+    ensures { IfOk result (λ s. string_bytes s ≡ said.later_text before.now after.now) }
+{
+    let one = alone_text(alloc, before, after)?;
+    later_with(alloc, before, after, &one)
+}
+
+/// Returns how to accept these hits, and then `later`.
+fn accept_with(
+    alloc: Global,
+    before: &str,
+    after: &str,
+    them: &str,
+    later: &str,
+) -> Result<String, AllocError>
+    ensures { IfOk result
+        (λ s. string_bytes s ≡ said.accept_with before.now after.now them.now later.now) }
+{
+    format!(in alloc;
+        "To accept {them}, run the same merge with {before}--accept --reason TEXT --suppress-out FILE{after}, review FILE, and pass {later}"
+    )
+}
+
+/// Returns how to accept the hits, or one of them, with each part of a command between `before` and `after`. Returns
+/// `AllocError` if memory runs out.
 pub fn accept_text(
     alloc: Global,
     hits: u32,
@@ -100,9 +139,8 @@ pub fn accept_text(
     ensures { IfOk result (λ s. string_bytes s ≡ said.accept_text before.now after.now hits) }
 {
     let them = if hits == 1 { "this hit" } else { "these hits" };
-    format!(in alloc;
-        "To accept {them}, run the same merge with {before}--accept --reason TEXT --suppress-out FILE{after}, review FILE, and pass {before}--suppress FILE{after} from then on."
-    )
+    let later = later_text(alloc, before, after)?;
+    accept_with(alloc, before, after, them, &later)
 }
 
 /// Returns how many input runs have no results. Returns `AllocError` if memory runs out.

@@ -1,5 +1,7 @@
 pub mod ForGood
 pub mod KeySet
+pub mod LimitedResults
+pub mod Limits
 pub mod Marked
 pub mod Numbered
 pub mod ReadBack

@@ -29,16 +29,16 @@ passes test (Err fault) = false
 object_status : (e : Entry) → status_of (object_of e) ≡ Ok e.status
 object_status e =
     elim e.status as
-    (λ s. status_of (object_of (record { conditions = e.conditions; expires = e.expires; status = s; justification = e.justification }))
+    (λ s. status_of (object_of (record { conditions = e.conditions; expires = e.expires; status = s; justification = e.justification; limit = e.limit }))
     ≡ Ok s) [
       | Accepted ↦ elim e.justification as
-          (λ j. status_of (object_of (record { conditions = e.conditions; expires = e.expires; status = Accepted; justification = j }))
+          (λ j. status_of (object_of (record { conditions = e.conditions; expires = e.expires; status = Accepted; justification = j; limit = e.limit }))
           ≡ Ok Accepted) [ None ↦ refl | Some text ↦ refl ]
       | UnderReview ↦ elim e.justification as
-          (λ j. status_of (object_of (record { conditions = e.conditions; expires = e.expires; status = UnderReview; justification = j }))
+          (λ j. status_of (object_of (record { conditions = e.conditions; expires = e.expires; status = UnderReview; justification = j; limit = e.limit }))
           ≡ Ok UnderReview) [ None ↦ refl | Some text ↦ refl ]
       | Rejected ↦ elim e.justification as
-          (λ j. status_of (object_of (record { conditions = e.conditions; expires = e.expires; status = Rejected; justification = j }))
+          (λ j. status_of (object_of (record { conditions = e.conditions; expires = e.expires; status = Rejected; justification = j; limit = e.limit }))
           ≡ Ok Rejected) [ None ↦ refl | Some text ↦ refl ]
     ]
 

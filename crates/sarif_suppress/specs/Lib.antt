@@ -1,3 +1,4 @@
 pub mod Internal
+pub mod Limited
 pub mod Suppressing
 pub mod Written

@@ -4,6 +4,8 @@
 
 mod lasting;
 mod laws;
+mod left;
+mod limited_laws;
 mod marks;
 mod objects;
 mod read_file;
@@ -15,6 +17,11 @@ mod whole;
 pub use laws::{
     nothing_is_written_of_nothing, written_passes_where_its_parts_do,
     written_suppressions_say_what_is_suppressed,
+};
+pub use left::Left;
+pub use limited_laws::{
+    an_entry_matches_as_many_as_its_limit, an_entry_matches_the_first_results_that_meet_it,
+    results_stay_if_no_entry_has_a_limit,
 };
 pub use marks::Marks;
 pub use read_file::read_rules_with;

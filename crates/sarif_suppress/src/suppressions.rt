@@ -2,12 +2,14 @@
 ghost use Rattle.std.specs.Prelude.{◌≡◌, ◌≤◌, [], length, map, IfOk};
 ghost use Rattle.serde_json.specs.View.{view};
 ghost use Rattle.sarif_model.specs.declared.record.Record.{Record};
+ghost use Rattle.sarif_suppress.specs.Internal.Left.{left_after};
 ghost use Rattle.sarif_suppress.specs.Internal.Marks.{marks_of};
 ghost use Rattle.sarif_suppress.specs.Written as said;
 ghost use Rattle.sarif_suppress.specs.Suppressing.{lasting, matching_numbers, is_suppressed};
 ghost use Rattle.sarif_model.specs.Limits.{most_entries};
 
 use crate::lasting::do_suppress_for_good;
+use crate::left::Left;
 use crate::marks::Marks;
 use crate::objects::with_objects;
 use crate::select::{do_suppress, select};
@@ -64,8 +66,8 @@ impl<S: BuildHasher + Copy> Suppressions<S> {
         Suppressions::new(alloc, hasher, Vec::new(alloc), today)
     }
 
-    /// At most `MOST_ENTRIES` entries, with their tables.
-    pub(crate) fn new(
+    /// At most `MOST_ENTRIES` entries, with their tables. Returns `AllocError` if memory for the tables runs out.
+    pub fn new(
         alloc: Global,
         hasher: S,
         entries: Vec<Entry>,
@@ -151,6 +153,15 @@ impl<S: BuildHasher + Copy> Suppressions<S> {
         let numbers = applied.entries.as_slice();
         let list = with_objects(alloc, self.hasher, own, &self.entries, numbers)?;
         Ok(list)
+    }
+
+    /// Returns how many more results each entry with `max` matches, before any result. Returns `AllocError` if memory for
+    /// these numbers runs out.
+    #[tactic(auto, using(crate::proofs::Limits::all_left))]
+    pub fn left(&self, alloc: Global) -> Result<Left, AllocError>
+        ensures { IfOk result (λ left. left ≡ left_after self.now []) }
+    {
+        Ok(Left::of_all(alloc, &self.entries)?)
     }
 
     /// Returns a mark for each entry, none of them set. Returns `AllocError` if memory for them runs out.

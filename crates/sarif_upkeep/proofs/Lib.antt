@@ -1,5 +1,6 @@
 pub mod Causes
 pub mod NewEntries
+pub mod OthersCounted
 pub mod Shown
 pub mod Stays
 pub mod Taken

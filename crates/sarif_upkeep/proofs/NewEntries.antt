@@ -9,7 +9,7 @@ use Rattle.serde_json.specs.Data.{Data, object, no_members}
 use Rattle.serde_json.specs.Find.{as_array, get}
 use Rattle.json_parts.specs.Indexed.{json_of}
 use Rattle.json_parts.specs.Mark.{without_mark}
-use Rattle.sarif_match.specs.Seen.{as_matched}
+use Rattle.sarif_evidence.specs.Seen.{as_matched}
 use Rattle.sarif_model.specs.declared.record.Record.{Record}
 use Rattle.sarif_model.specs.Run.{elements_or_none}
 use Rattle.sarif_options.specs.declared.upkeep.Renewal.{Renewal}
@@ -23,7 +23,7 @@ use Rattle.sarif_accept.specs.Adding.{once_each}
 use Rattle.sarif_accept.specs.Entry.{entry_for}
 use Rattle.sarif_accept.specs.Keeping.{chosen, is_kept}
 use Rattle.sarif_accept.specs.NewFile.{entries_after, entries_in, file_object, file_text, new_file, stripped_in}
-use Rattle.sarif_accept.proofs.GivenFile.{checked_list}
+use Rattle.sarif_accept.proofs.CheckedList.{checked_list}
 use Rattle.sarif_upkeep.proofs.Shown.{each_shown}
 use Rattle.sarif_upkeep.specs.Heard.{heard}
 use Rattle.sarif_upkeep.specs.Internal.IsMatched.{IsFileOf}

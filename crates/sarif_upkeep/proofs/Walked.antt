@@ -1,6 +1,6 @@
 -- One more of the results that are walked over.
-use Rattle.std.proofs.Common.{◌≡◌, ◌<◌, ◌+◌, ◌++◌, ◌&&◌, ℕ, Bool, true, false, not, List, [], ◌∷◌, map, drop, length, get_or, append_assoc, refl, sym, ap, ◌∙◌, arith, if◌then◌else◌}
-use Rattle.std.proofs.lemmas.List.{drop_more, get_or-map}
+use Rattle.std.proofs.Common.{◌≡◌, ◌<◌, ◌≤◌, ◌+◌, ◌++◌, ◌&&◌, ℕ, suc, Bool, true, false, not, List, [], ◌∷◌, Some, map, drop, length, get_or, append_assoc, refl, sym, ap, ◌∙◌, arith, if◌then◌else◌}
+use Rattle.std.proofs.lemmas.List.{append-nil, drop_all, drop_more, get_or-map}
 use Rattle.sarif_model.specs.declared.kinds.State.{State}
 use Rattle.sarif_model.specs.declared.kinds.State.TheVariants.{Absent}
 use Rattle.sarif_model.specs.declared.record.Record.{Record}
@@ -9,7 +9,9 @@ use Rattle.sarif_suppress.specs.declared.suppressions.Applied.{Applied}
 use Rattle.sarif_entries.specs.File.{File}
 use Rattle.sarif_results.specs.declared.draft.Draft.{Draft}
 use Rattle.sarif_results.specs.Drafts.{applied_of}
+use Rattle.sarif_entries.specs.declared.entry.Entry.{Entry}
 use Rattle.sarif_accept.specs.Adding.{accepted_among, is_hit, stays, MayBeHit}
+use Rattle.sarif_accept.specs.Choosing.{accepted_by, alike_among, is_alike, is_other, others_among}
 use Rattle.sarif_upkeep.specs.Renewed.{absent_hits, no_entries, staying_among}
 
 -- the first of what is left of a list
@@ -48,6 +50,39 @@ module _ (counts : MayBeHit) (file : File) where
       ∙ ap (λ l. accepted_among counts file (r ∷ drop (n + 1) rs) l) (first_left states n state ds in_states state_is) in
       ap (λ l. l ++ rest) pushed ∙ one_accepted (is_taken r state) r old rest ∙ ap (λ l. old ++ l) (sym opened) ∙ held
 
+  -- one more result, by its mark
+  pub marked_next : (marks : List Bool) (rs : List Record) (states : List State) (n : ℕ) (mark dm : Bool) (r dr : Record) (state ds : State)
+      (old new whole : List Record)
+      → n < length marks → n < length rs → n < length states → mark ≡ get_or marks n dm → r ≡ get_or rs n dr → state ≡ get_or states n ds
+      → new ≡ (if mark then (if is_hit counts file r state && not (stays file r) then old ++ r ∷ [] else old) else old)
+      → old ++ accepted_by (Some (drop n marks)) counts file (drop n rs) (drop n states) ≡ whole
+      → new ++ accepted_by (Some (drop (n + 1) marks)) counts file (drop (n + 1) rs) (drop (n + 1) states) ≡ whole
+  marked_next marks rs states n mark dm r dr state ds old new whole in_marks in_rs in_states mark_is r_is state_is pushed held =
+      let more = drop (n + 1) marks in
+      let later = drop (n + 1) rs in
+      let after = drop (n + 1) states in
+      let rest = accepted_by (Some more) counts file later after in
+      let opened : accepted_by (Some (drop n marks)) counts file (drop n rs) (drop n states)
+      ≡ accepted_by (Some (mark ∷ more)) counts file (r ∷ later) (state ∷ after) =
+      ap (λ l. accepted_by (Some l) counts file (drop n rs) (drop n states)) (first_left marks n mark dm in_marks mark_is)
+      ∙ ap (λ l. accepted_by (Some (mark ∷ more)) counts file l (drop n states)) (first_left rs n r dr in_rs r_is)
+      ∙ ap (λ l. accepted_by (Some (mark ∷ more)) counts file (r ∷ later) l) (first_left states n state ds in_states state_is) in
+      ap (λ l. l ++ rest) pushed ∙ by_mark mark more r later state after old ∙ ap (λ l. old ++ l) (sym opened) ∙ held
+    where
+      by_mark : (mark : Bool) (marks : List Bool) (r : Record) (rs : List Record) (state : State) (states : List State) (old : List Record)
+          → (if mark then (if is_hit counts file r state && not (stays file r) then old ++ r ∷ [] else old) else old)
+          ++ accepted_by (Some marks) counts file rs states
+          ≡ old ++ accepted_by (Some (mark ∷ marks)) counts file (r ∷ rs) (state ∷ states)
+      by_mark true marks r rs state states old = one_accepted (is_taken r state) r old (accepted_by (Some marks) counts file rs states)
+      by_mark false marks r rs state states old = refl
+
+  pub marked_end : (marks : List Bool) (rs : List Record) (states : List State) (n : ℕ) (all whole : List Record) → length marks ≤ n
+      → all ++ accepted_by (Some (drop n marks)) counts file (drop n rs) (drop n states) ≡ whole → all ≡ whole
+  marked_end marks rs states n all whole past held =
+      sym (append-nil all)
+      ∙ ap (λ l. all ++ accepted_by (Some l) counts file (drop n rs) (drop n states)) (sym (drop_all n marks past))
+      ∙ held
+
   pub staying_next : (rs : List Record) (states : List State) (n : ℕ) (r dr : Record) (state ds : State) (old one whole : ℕ)
       → n < length rs → n < length states → r ≡ get_or rs n dr → state ≡ get_or states n ds
       → one ≡ count_if (is_hit counts file r state && stays file r) 1
@@ -71,3 +106,58 @@ module _ (counts : MayBeHit) (file : File) where
       ap (λ l. absent_hits counts file l (drop n taken)) (first_left rs n r dr in_rs r_is)
       ∙ ap (λ l. absent_hits counts file (r ∷ drop (n + 1) rs) l) (first_left taken n t dt in_taken t_is) in
       omega (arith, counted, opened, held)
+
+module _ (counts : MayBeHit) (file : File) (es : List Entry) where
+  from_zero : (n : ℕ) → n ≡ 0 + n
+  from_zero n = omega arith
+
+  one_more : (n : ℕ) → suc n ≡ 1 + n
+  one_more n = omega arith
+
+  one_long : (b : Bool) (r : Record) (rs : List Record) → length (if b then r ∷ rs else rs) ≡ count_if b 1 + length rs
+  one_long true r rs = one_more (length rs)
+  one_long false r rs = from_zero (length rs)
+
+  pub alike_next : (marks : List Bool) (rs : List Record) (states : List State) (n : ℕ) (mark dm : Bool) (r dr : Record) (state ds : State)
+      (old one whole : ℕ)
+      → n < length marks → n < length rs → n < length states → mark ≡ get_or marks n dm → r ≡ get_or rs n dr → state ≡ get_or states n ds
+      → one ≡ count_if (is_alike counts file es mark r state) 1
+      → old + length (alike_among counts file es (drop n marks) (drop n rs) (drop n states)) ≡ whole
+      → (old + one) + length (alike_among counts file es (drop (n + 1) marks) (drop (n + 1) rs) (drop (n + 1) states)) ≡ whole
+  alike_next marks rs states n mark dm r dr state ds old one whole in_marks in_rs in_states mark_is r_is state_is counted held =
+      let rest = alike_among counts file es (drop (n + 1) marks) (drop (n + 1) rs) (drop (n + 1) states) in
+      let opened : length (alike_among counts file es (drop n marks) (drop n rs) (drop n states))
+      ≡ count_if (is_alike counts file es mark r state) 1 + length rest =
+      ap (λ l. length (alike_among counts file es l (drop n rs) (drop n states))) (first_left marks n mark dm in_marks mark_is)
+      ∙ ap (λ l. length (alike_among counts file es (mark ∷ drop (n + 1) marks) l (drop n states))) (first_left rs n r dr in_rs r_is)
+      ∙ ap (λ l. length (alike_among counts file es (mark ∷ drop (n + 1) marks) (r ∷ drop (n + 1) rs) l)) (first_left states n state ds in_states state_is)
+      ∙ one_long (is_alike counts file es mark r state) r rest in
+      omega (arith, counted, opened, held)
+
+  pub others_next : (marks : List Bool) (rs : List Record) (states : List State) (n : ℕ) (mark dm : Bool) (r dr : Record) (state ds : State)
+      (old one whole : ℕ)
+      → n < length marks → n < length rs → n < length states → mark ≡ get_or marks n dm → r ≡ get_or rs n dr → state ≡ get_or states n ds
+      → one ≡ count_if (is_other counts file es mark r state) 1
+      → old + length (others_among counts file es (drop n marks) (drop n rs) (drop n states)) ≡ whole
+      → (old + one) + length (others_among counts file es (drop (n + 1) marks) (drop (n + 1) rs) (drop (n + 1) states)) ≡ whole
+  others_next marks rs states n mark dm r dr state ds old one whole in_marks in_rs in_states mark_is r_is state_is counted held =
+      let rest = others_among counts file es (drop (n + 1) marks) (drop (n + 1) rs) (drop (n + 1) states) in
+      let opened : length (others_among counts file es (drop n marks) (drop n rs) (drop n states))
+      ≡ count_if (is_other counts file es mark r state) 1 + length rest =
+      ap (λ l. length (others_among counts file es l (drop n rs) (drop n states))) (first_left marks n mark dm in_marks mark_is)
+      ∙ ap (λ l. length (others_among counts file es (mark ∷ drop (n + 1) marks) l (drop n states))) (first_left rs n r dr in_rs r_is)
+      ∙ ap (λ l. length (others_among counts file es (mark ∷ drop (n + 1) marks) (r ∷ drop (n + 1) rs) l)) (first_left states n state ds in_states state_is)
+      ∙ one_long (is_other counts file es mark r state) r rest in
+      omega (arith, counted, opened, held)
+
+  pub alike_end : (marks : List Bool) (rs : List Record) (states : List State) (n : ℕ) (all whole : ℕ) → length marks ≤ n
+      → all + length (alike_among counts file es (drop n marks) (drop n rs) (drop n states)) ≡ whole → all ≡ whole
+  alike_end marks rs states n all whole past held =
+      let none = ap (λ l. length (alike_among counts file es l (drop n rs) (drop n states))) (drop_all n marks past) in
+      omega (arith, none, held)
+
+  pub others_end : (marks : List Bool) (rs : List Record) (states : List State) (n : ℕ) (all whole : ℕ) → length marks ≤ n
+      → all + length (others_among counts file es (drop n marks) (drop n rs) (drop n states)) ≡ whole → all ≡ whole
+  others_end marks rs states n all whole past held =
+      let none = ap (λ l. length (others_among counts file es l (drop n rs) (drop n states))) (drop_all n marks past) in
+      omega (arith, none, held)

@@ -1,6 +1,9 @@
 -- What a merge gives for later merges.
-use Rattle.std.specs.Prelude.{ℕ, List, [], ◌++◌, Option, Some, None, option_map, if◌then◌else◌}
+use Rattle.std.specs.Prelude.{ℕ, List, [], ◌∷◌, ◌++◌, Option, Some, None, option_map, if◌then◌else◌}
+use Rattle.sarif_model.specs.declared.fault.Fault.TheVariants.{NoHit}
+use Rattle.sarif_model.specs.declared.merge_fault.At.{At}
 use Rattle.sarif_model.specs.declared.merge_fault.MergeFault.{MergeFault}
+use Rattle.sarif_model.specs.MergeFault.{cause_of, fault_at}
 use Rattle.sarif_counts.specs.declared.life.Life.{Life}
 use Rattle.sarif_options.specs.declared.upkeep.Knowing.{Knowing}
 use Rattle.sarif_options.specs.declared.upkeep.Renewal.{Renewal}
@@ -32,7 +35,19 @@ abbrev pub if_known : Merge → Option Knowing → List MergeFault
 if_known m None = []
 if_known m (Some knowing) = known_faults m knowing
 
--- the errors of what was requested, in order: the new suppression file, and then the known log
+-- the errors of the files that were requested, in order: the new suppression file, and then the known log
+abbrev pub files_faults : Merge → Upkeep → List MergeFault
+files_faults m upkeep = if_renewed m upkeep.renewal ++ if_known m upkeep.known
+
+-- a place or a rule of the choice fits no chosen hit
+abbrev pub no_hit : At → MergeFault
+no_hit at = fault_at at (cause_of NoHit)
+
+abbrev pub if_misfit : Option At → List MergeFault
+if_misfit None = []
+if_misfit (Some at) = no_hit at ∷ []
+
+-- the errors of what was requested, in order: the choice, and then the files
 abbrev pub life_faults : Merge → Option Upkeep → List MergeFault
 life_faults m None = []
-life_faults m (Some upkeep) = if_renewed m upkeep.renewal ++ if_known m upkeep.known
+life_faults m (Some upkeep) = if_misfit m.misfit ++ files_faults m upkeep

@@ -2,11 +2,13 @@
 use Rattle.std.specs.Prelude.{ℕ, ◌+◌, Bool, List, [], ◌∷◌, length, map, Option}
 use Rattle.serde_json.specs.Data.{Data}
 use Rattle.sarif_model.specs.declared.kinds.State.{State}
+use Rattle.sarif_model.specs.declared.merge_fault.At.{At}
 use Rattle.sarif_model.specs.declared.record.Record.{Record}
 use Rattle.sarif_model.specs.Run.{present, results_of}
 use Rattle.sarif_options.specs.declared.policy.Policy.{Policy}
-use Rattle.sarif_match.specs.declared.version.MatchingVersion.{MatchingVersion}
+use Rattle.sarif_evidence.specs.declared.version.MatchingVersion.{MatchingVersion}
 use Rattle.sarif_entries.specs.File.{File}
+use Rattle.sarif_accept.specs.Choosing.{Marks}
 use Rattle.sarif_known.specs.declared.standing.Standing.{Standing}
 
 pub record Merge : Type 0 where
@@ -23,6 +25,9 @@ pub record Merge : Type 0 where
   pub states : List State
   -- the same states, and whether they are doubtful
   pub standings : List Standing
+  -- which of these are chosen hits, if not all hits are, and the first place or rule of the choice that fits none of them
+  pub chosen : Marks
+  pub misfit : Option At
   -- the runs of the baselines, the records of their results that are not already absent, and which of these are the
   -- match of a current result
   pub before : List Data

@@ -1,5 +1,5 @@
 -- The new suppression file of a merge.
-use Rattle.std.specs.Prelude.{ℕ, ◌+◌, Bool, not, ◌&&◌, List, [], ◌∷◌, count_by, length, map, nat_lt, if◌then◌else◌}
+use Rattle.std.specs.Prelude.{ℕ, ◌+◌, Bool, not, ◌&&◌, List, [], ◌∷◌, Option, Some, None, count_by, length, map, nat_lt, option_map, if◌then◌else◌}
 use Rattle.serde_json.specs.Data.{Data}
 use Rattle.sarif_model.specs.declared.fault.Fault.TheVariants.{TooMany}
 use Rattle.sarif_model.specs.declared.kinds.State.{State}
@@ -14,8 +14,10 @@ use Rattle.sarif_model.specs.MergeFault.{cause_of, fault_at}
 use Rattle.sarif_counts.specs.declared.life.NewFile.{NewFile}
 use Rattle.sarif_options.specs.declared.upkeep.Renewal.{Renewal}
 use Rattle.sarif_counts.specs.Hits.{count_if}
+use Rattle.sarif_entries.specs.declared.entry.Entry.{Entry}
 use Rattle.sarif_entries.specs.File.{File}
-use Rattle.sarif_accept.specs.Adding.{accepted_among, added_for, is_hit, may_hit, stays, MayBeHit, How}
+use Rattle.sarif_accept.specs.Adding.{is_hit, may_hit, stays, MayBeHit, How}
+use Rattle.sarif_accept.specs.Choosing.{accepted_by, added_by, alike_among, entries_read, others_among, Marks}
 use Rattle.sarif_accept.specs.Entry.{entry_for}
 use Rattle.sarif_accept.specs.Keeping.{is_kept}
 use Rattle.sarif_accept.specs.NewFile.{entries_after, file_object, file_text, new_file}
@@ -33,19 +35,23 @@ abbrev pub kept_in : Merge → Renewal → List Bool
 kept_in m renewal =
     map (is_kept renewal.prune (heard m.runs) m.file m.records) m.file.entries
 
--- the hits that are accepted, in the order of the merged log
+-- the chosen hits that are accepted, in the order of the merged log
 abbrev pub accepted_in : Merge → List Record
-accepted_in m = accepted_among (may_hit m.policy) m.file m.records m.states
+accepted_in m = accepted_by m.chosen (may_hit m.policy) m.file m.records m.states
 
 -- the results for which entries are added, as the version of matching sees them
 abbrev pub added_in : Merge → Renewal → List Record
 added_in m renewal =
-    added_for (how_of m renewal) (may_hit m.policy) m.file m.records m.states
+    added_by (how_of m renewal) m.chosen (may_hit m.policy) m.file m.records m.states
 
 -- the entries that accept them
 abbrev pub values_added : Merge → Renewal → List Data
 values_added m renewal =
     map (λ r. entry_for r renewal.reason renewal.until) (added_in m renewal)
+
+-- these entries, as they are read
+abbrev pub entries_added : Merge → Renewal → List Entry
+entries_added m renewal = entries_read (how_of m renewal) (added_in m renewal)
 
 -- how many entries the new suppression file has
 abbrev pub entries_count : Merge → Renewal → ℕ
@@ -59,7 +65,18 @@ rules_after m renewal =
 
 -- ---- its numbers
 
--- how many hits among current results stay hits
+-- how many hits aren't chosen and are accepted all the same
+abbrev pub alike_in : Merge → Renewal → List Bool → ℕ
+alike_in m renewal marks =
+    length (alike_among (may_hit m.policy) m.file (entries_added m renewal) marks
+    m.records m.states)
+
+-- the number of these, if not all hits are chosen
+abbrev pub alike_told : Merge → Renewal → Option ℕ
+alike_told m renewal =
+    option_map (λ marks. count_if renewal.accept (alike_in m renewal marks)) m.chosen
+
+-- how many hits among current results have suppressions, and so stay hits
 abbrev pub staying_among : MayBeHit → File → List Record → List State → ℕ
 staying_among counts file [] states = 0
 staying_among counts file (r ∷ rs) [] = 0
@@ -79,17 +96,24 @@ absent_hits counts file (r ∷ rs) (taken ∷ more) =
     count_if (not taken && is_hit counts (no_entries file) r Absent) 1
     + absent_hits counts file rs more
 
-abbrev pub stay_in : Merge → ℕ
-stay_in m =
-    staying_among (may_hit m.policy) m.file m.records m.states
-    + absent_hits (may_hit m.policy) m.file m.known m.taken
+-- how many hits among current results stay hits; if not all are chosen, how many are neither accepted nor alike
+abbrev pub current_stay : Merge → Renewal → Marks → ℕ
+current_stay m renewal None = staying_among (may_hit m.policy) m.file m.records m.states
+current_stay m renewal (Some marks) =
+    length (others_among (may_hit m.policy) m.file (entries_added m renewal) marks
+    m.records m.states)
+
+abbrev pub stay_in : Merge → Renewal → ℕ
+stay_in m renewal =
+    current_stay m renewal m.chosen + absent_hits (may_hit m.policy) m.file m.known m.taken
 
 -- the new file, as it is given
 abbrev pub renewed : Merge → Renewal → NewFile
 renewed m renewal = record {
   text = file_text (rules_after m renewal);
   accepted = count_if renewal.accept (length (accepted_in m));
-  stay = count_if renewal.accept (stay_in m);
+  alike = alike_told m renewal;
+  stay = count_if renewal.accept (stay_in m renewal);
   pruned = count_by (λ kept. not kept) (kept_in m renewal);
   entries = entries_count m renewal;
 }

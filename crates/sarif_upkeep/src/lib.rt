@@ -3,8 +3,10 @@
 
 mod accepting;
 mod knowing;
+mod leaving;
 mod life;
 mod matched;
+mod others;
 mod renewing;
 mod showing;
 mod staying;

@@ -30,6 +30,43 @@ fn list_unused(alloc: Global, matched: &Matched<'_, '_, '_>) -> Result<Text, All
     }
 }
 
+/// What `upkeep` requests, and nothing else.
+fn make_life(
+    alloc: Global,
+    seed: RandomState,
+    matched: &Matched<'_, '_, '_>,
+    upkeep: &Upkeep,
+) -> Result<Life, MergeFault>
+    requires { (m : Merge) × IsMatched m matched.now }
+    ensures made { (m : Merge) → IsMatched m matched.now
+        → IfOk result (λ life. life ≡ said.life_of m (Some upkeep.now)) }
+    ensures read { (m : Merge) → IsMatched m matched.now
+        → IfOk result (IsReadAgain m upkeep.now) }
+    ensures sound { (m : Merge) → IsMatched m matched.now
+        → IfOk result (λ _. said.files_faults m upkeep.now ≡ []) }
+    ensures refused { (m : Merge) → IsMatched m matched.now → IfErr result (λ fault.
+        (fault ≡ out_of_memory) ⊎ (first (said.files_faults m upkeep.now) ≡ Some fault)) }
+{
+    let suppressions = match &upkeep.renewal {
+        Some(renewal) => Some(renew(alloc, seed, matched, renewal)?),
+        None => None,
+    };
+    let unused = if upkeep.unused {
+        Some(list_unused(alloc, matched)?)
+    } else {
+        None
+    };
+    let known = match upkeep.known {
+        Some(knowing) => Some(remember(alloc, seed, matched, knowing)?),
+        None => None,
+    };
+    Ok(Life {
+        suppressions,
+        unused,
+        known,
+    })
+}
+
 /// Returns what a merge gives for later merges: what `upkeep` requests, and nothing else. Each file of it is read as it is
 /// defined; the known log is if its records are those of results that were read. Returns `TooMany` or `TooLong`
 /// at the suppression file if the new one could not be read again, then `TooLong` at the known log if this one could not,
@@ -50,22 +87,5 @@ pub fn life_of(
     ensures refused { (m : Merge) → IsMatched m matched.now → IfErr result (λ fault.
         (fault ≡ out_of_memory) ⊎ (first (said.life_faults m (Some upkeep.now)) ≡ Some fault)) }
 {
-    let suppressions = match &upkeep.renewal {
-        Some(renewal) => Some(renew(alloc, seed, matched, renewal)?),
-        None => None,
-    };
-    let unused = if upkeep.unused {
-        Some(list_unused(alloc, matched)?)
-    } else {
-        None
-    };
-    let known = match upkeep.known {
-        Some(knowing) => Some(remember(alloc, seed, matched, knowing)?),
-        None => None,
-    };
-    Ok(Life {
-        suppressions,
-        unused,
-        known,
-    })
+    make_life(alloc, seed, matched, upkeep)
 }

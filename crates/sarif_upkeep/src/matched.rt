@@ -1,6 +1,6 @@
 //! A merge whose results are matched.
+use sarif_evidence::MatchingVersion;
 use sarif_known::Standing;
-use sarif_match::MatchingVersion;
 use sarif_model::{Record, State};
 use sarif_options::Policy;
 use sarif_results::Draft;
@@ -46,6 +46,8 @@ pub struct Matched<'m, 't: 'm, 'a: 't> {
     pub policy: Policy,
     /// The version by which the results were matched.
     pub matching: MatchingVersion,
+    /// Which of the current results are chosen hits, if not all hits are.
+    pub chosen: Option<&'m [bool]>,
     /// The results of the input runs.
     pub current: Current<'m, 't, 'a>,
     /// The results of the baselines.

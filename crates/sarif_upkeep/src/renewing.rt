@@ -19,10 +19,10 @@ ghost use Rattle.sarif_upkeep.specs.Merge.{Merge};
 ghost use Rattle.sarif_upkeep.specs.ReadBack.{IsNewFile};
 ghost use Rattle.sarif_upkeep.specs.Renewed as said;
 
-use crate::accepting::accepted_among;
+use crate::accepting::{accepted_among, accepted_marked};
+use crate::leaving::left_by;
 use crate::matched::{Current, Matched};
 use crate::showing::{references, shown_if_less};
-use crate::staying::{absent_hits, staying_among};
 use crate::tools::{heard_in, used_by};
 use sarif_accept::{each_once, kept_entries, new_file};
 use sarif_counts::NewFile;
@@ -58,7 +58,7 @@ fn kept_in(
     kept_entries(alloc, matched.file, &marks, &heard, renewal.prune)
 }
 
-/// The hits that are accepted, if hits are to be accepted.
+/// The chosen hits that are accepted, if hits are to be accepted.
 fn accepted_if<'m>(
     alloc: Global,
     matched: &Matched<'m, '_, '_>,
@@ -69,26 +69,8 @@ fn accepted_if<'m>(
         map (λ r. r.now) accepted.items ≡ (if accept then said.accepted_in m else [])) }
     ensures few { IfOk result (λ accepted. length accepted.items ≤ most_results) }
 {
-    if accept {
-        let Current {
-            records,
-            drafts,
-            states,
-            ..
-        } = matched.current;
-        accepted_among(alloc, matched.policy, records, drafts, states)
-    } else {
-        Ok(Vec::new(alloc))
-    }
-}
-
-/// How many hits stay, if hits are to be accepted.
-fn staying_if(matched: &Matched<'_, '_, '_>, accept: bool) -> u32
-    requires { (m : Merge) × IsMatched m matched.now }
-    ensures { (m : Merge) → IsMatched m matched.now → result ≡ count_if accept (said.stay_in m) }
-{
     if !accept {
-        return 0;
+        return Ok(Vec::new(alloc));
     }
     let Current {
         records,
@@ -96,9 +78,11 @@ fn staying_if(matched: &Matched<'_, '_, '_>, accept: bool) -> u32
         states,
         ..
     } = matched.current;
-    let current = staying_among(matched.policy, records, drafts, states);
-    let absent = absent_hits(matched.policy, matched.before.records, matched.before.taken);
-    (current + absent) as u32
+    let policy = matched.policy;
+    match matched.chosen {
+        None => accepted_among(alloc, policy, records, drafts, states),
+        Some(marks) => accepted_marked(alloc, policy, records, drafts, states, marks),
+    }
 }
 
 /// The results for which entries are added, of those that are accepted.
@@ -198,13 +182,15 @@ pub(crate) fn renew(
     let shown = shown_if_less(alloc, matched.matching, &accepted)?;
     let added = added_shown(alloc, seed, &accepted, &shown)?;
     let text = text_of(alloc, matched.bytes, &kept, &added, renewal)?;
+    let left = left_by(alloc, seed, matched, &added, renewal)?;
     let all = matched.file.len();
-    let left = count_kept(&kept) as u32;
+    let count = count_kept(&kept) as u32;
     Ok(NewFile {
         text,
         accepted: accepted.len() as u32,
-        stay: staying_if(matched, renewal.accept),
-        pruned: all - left,
-        entries: left + added.len() as u32,
+        alike: left.alike,
+        stay: left.stay,
+        pruned: all - count,
+        entries: count + added.len() as u32,
     })
 }

@@ -1,10 +1,10 @@
 //! The accepted results, as the entries that accept them see them.
 ghost use Rattle.std.specs.Prelude.{◌≡◌, map, true, IfOk};
 ghost use Rattle.std.specs.Option.{option_map_or};
-ghost use Rattle.sarif_match.specs.Seen.{as_matched as looked_at};
-ghost use Rattle.sarif_match.specs.declared.version.MatchingVersion.TheVariants.{Two};
+ghost use Rattle.sarif_evidence.specs.Seen.{as_matched as looked_at};
+ghost use Rattle.sarif_evidence.specs.declared.version.MatchingVersion.TheVariants.{Two};
 
-use sarif_match::{MatchingVersion, as_matched};
+use sarif_evidence::{MatchingVersion, as_matched};
 use sarif_model::Record;
 use std::alloc::{AllocError, Global};
 

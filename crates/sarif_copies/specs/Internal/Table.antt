@@ -21,6 +21,7 @@ fields_of key = record {
   held = key.held.now;
   region = key.region;
   snippet = key.snippet.now;
+  spent = key.spent.now;
 }
 
 -- whether two keys are equal, field by field

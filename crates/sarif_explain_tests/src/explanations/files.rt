@@ -126,7 +126,7 @@ fn an_entry_has_the_members_of_its_version(rt: HostRuntime) -> Result<(), Fail> 
             r#"  file: found.sarif
   where: /suppressions/0/until
   found: 20251231
-  wanted: only the members tool, ruleId, uri, uriPrefix, guid, fingerprints, partialFingerprints, message, messageId, messageArguments, snippet, expires, status and justification
+  wanted: only the members tool, ruleId, uri, uriPrefix, guid, fingerprints, partialFingerprints, message, messageId, messageArguments, snippet, max, expires, status and justification
   advice: fix the entry, or validate the file against its JSON Schema
 "#,
         ),
@@ -136,6 +136,15 @@ fn an_entry_has_the_members_of_its_version(rt: HostRuntime) -> Result<(), Fail> 
   where: /suppressions/0/snippet
   found: 5
   wanted: a string
+  advice: fix the entry, or validate the file against its JSON Schema
+"#,
+        ),
+        (
+            r#"{"version":5,"suppressions":[{"tool":"lint","max":0}]}"#,
+            r#"  file: found.sarif
+  where: /suppressions/0/max
+  found: 0
+  wanted: an integer from 1 to 4294967295
   advice: fix the entry, or validate the file against its JSON Schema
 "#,
         ),

@@ -1,14 +1,14 @@
 -- What is assembled.
 use Rattle.std.specs.Prelude.{◌≡◌, ℕ, List, Option, None}
 use Rattle.serde_json.specs.Data.{Data}
-use Rattle.sarif_match.specs.declared.version.MatchingVersion.{MatchingVersion}
+use Rattle.sarif_evidence.specs.declared.version.MatchingVersion.{MatchingVersion}
 use Rattle.sarif_entries.specs.File.{File}
 use Rattle.sarif_suppress.specs.Suppressing.{unused_of}
-use Rattle.sarif_runs.specs.Judging.{records_of, run_values}
+use Rattle.sarif_runs.specs.Judging.{run_values}
 use Rattle.sarif_runs.specs.Placed.{Placed}
 use Rattle.sarif_findings.specs.declared.reporting.Reporting.{Reporting}
 use Rattle.sarif_log.specs.declared.prepared.Prepared.{Prepared}
-use Rattle.sarif_log.specs.LogBy.{expired_of, runs_by, runs_without_results}
+use Rattle.sarif_log.specs.LogBy.{expired_of, limited_records, runs_by, runs_without_results}
 use Rattle.sarif_log.specs.Told.{told_of}
 use Rattle.sarif_log.specs.declared.copies.CopyPlace.{CopyPlace}
 use Rattle.sarif_log.specs.Internal.Copied.{places_by}
@@ -21,8 +21,8 @@ pub record IsPrepared (version : MatchingVersion) (file : File) (current baselin
   pub written : AreWritten prepared.current prepared.baseline
       (runs_by version file current baseline)
   pub without : prepared.without ≡ runs_without_results (run_values current)
-  pub unused : prepared.unused ≡ unused_of file (records_of current)
-  pub expired : prepared.expired ≡ expired_of file (records_of current)
+  pub unused : prepared.unused ≡ unused_of file (limited_records file current)
+  pub expired : prepared.expired ≡ expired_of file (limited_records file current)
   pub told : prepared.findings.items ≡ told_of asked (runs_by version file current baseline)
   pub copies : prepared.copies ≡ None
 

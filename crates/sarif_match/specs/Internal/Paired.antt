@@ -3,7 +3,7 @@ use Rattle.std.specs.Prelude.{◌≡◌, ℕ, List, ◌∷◌, ◌++◌, Bool, f
 use Rattle.std.specs.Option.{option_and_then}
 use Rattle.sarif_model.specs.declared.record.Record.{Record}
 use Rattle.sarif_match.specs.declared.tier.Tier.{Tier}
-use Rattle.sarif_match.specs.declared.version.MatchingVersion.{MatchingVersion}
+use Rattle.sarif_evidence.specs.declared.version.MatchingVersion.{MatchingVersion}
 use Rattle.sarif_match.specs.Key.{key_in, key_of}
 use Rattle.sarif_match.specs.KeyParts.{KeyParts, same_parts}
 use Rattle.sarif_match.specs.Partners.{has_partner, is_taken, keyed_from, partners_after}

@@ -1,6 +1,6 @@
 //! The states of two results, by the evidence that they are the same.
 use super::words::{result_of, results_of};
-use sarif_match::{MatchingVersion, state, state_in};
+use sarif_evidence::{MatchingVersion, state, state_in};
 use sarif_model::{Record, State};
 use std::alloc::{AllocError, Global};
 use std::test::Fail;

@@ -2,7 +2,8 @@
 use super::evidence::sign_of;
 use super::matched;
 use super::words::results_of;
-use sarif_match::{Matching, MatchingVersion, state_in};
+use sarif_evidence::{MatchingVersion, state_in};
+use sarif_match::Matching;
 use sarif_model::Record;
 use std::alloc::AllocError;
 use std::process::Abort;

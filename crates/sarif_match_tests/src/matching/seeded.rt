@@ -2,7 +2,8 @@
 //! long lists.
 use super::matched;
 use super::words::{add, plain, result_of};
-use sarif_match::{Matching, MatchingVersion, Tier, key, match_all_with, state, tiers};
+use sarif_evidence::{MatchingVersion, state};
+use sarif_match::{Matching, Tier, key, match_all_with, tiers};
 use sarif_model::{Record, State};
 use std::alloc::{AllocError, Global};
 use std::hash::RandomState;

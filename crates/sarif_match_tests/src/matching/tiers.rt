@@ -1,6 +1,7 @@
 //! The tiers of small lists, and at which of them a result has a key.
 use super::words::results_of;
-use sarif_match::{MatchingVersion, key, see, tiers};
+use sarif_evidence::MatchingVersion;
+use sarif_match::{key, see, tiers};
 use sarif_model::Record;
 use std::alloc::{AllocError, Global};
 use std::test::Fail;

@@ -43,6 +43,7 @@ pub fn plain(alloc: Global) -> Result<Record, AllocError> {
         held: Sequence::new(alloc),
         region: None,
         snippet: None,
+        spent: Sequence::new(alloc),
     })
 }
 

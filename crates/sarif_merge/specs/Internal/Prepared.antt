@@ -6,6 +6,7 @@ use Rattle.sarif_model.specs.declared.merge_fault.Source.TheVariants.{Log, Basel
 use Rattle.sarif_findings.specs.declared.reporting.Reporting.{Reporting}
 use Rattle.sarif_log.specs.declared.prepared.Prepared.{Prepared}
 use Rattle.sarif_prepare.specs.Kept.{IsKept}
+use Rattle.sarif_choice.specs.declared.choice.Choosing.{Choosing}
 use Rattle.sarif_prepare.specs.By.{IsPreparedBy}
 use Rattle.sarif_inputs.specs.Faults.{faults_of}
 use Rattle.sarif_entries.specs.Given.{file_or_none}
@@ -15,7 +16,7 @@ use Rattle.sarif_merge.specs.MergedLog.{expired_in, file_in}
 
 -- there are no errors, and everything that is written for the merge is there
 pub record IsPreparedFor (inputs : Inputs) (policy : Policy) (asked : Option Reporting)
-    (upkeep : Option Upkeep) (prepared : Prepared) : Type 0 where
+    (choice : Option Choosing) (upkeep : Option Upkeep) (prepared : Prepared) : Type 0 where
   pub faultless : faults_of inputs ≡ []
   pub written : IsPreparedBy inputs.checks
       (file_in (file_or_none inputs.suppressions inputs.today))
@@ -23,4 +24,4 @@ pub record IsPreparedFor (inputs : Inputs) (policy : Policy) (asked : Option Rep
       (placed (numbered inputs.checks Baseline 0 inputs.baselines))
       asked prepared
   pub expired : prepared.expired ≡ expired_in inputs
-  pub kept : IsKept (merge_counted inputs policy) upkeep prepared.life
+  pub kept : IsKept (merge_counted inputs policy choice) upkeep prepared.life

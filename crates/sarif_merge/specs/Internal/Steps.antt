@@ -19,7 +19,7 @@ use Rattle.sarif_inputs.specs.Internal.Indexes.{AreIndexesOf}
 use Rattle.sarif_inputs.specs.Inputs.{Inputs, all_runs, baseline_runs, input_runs}
 use Rattle.sarif_results.specs.Internal.Judged.{IsJudged, placed_in}
 use Rattle.sarif_results.specs.declared.judged.Judged.{Judged}
-use Rattle.sarif_prepare.specs.Asked.{reporting_in, upkeep_in}
+use Rattle.sarif_prepare.specs.Asked.{choice_in, reporting_in, upkeep_in}
 use Rattle.sarif_log.specs.declared.merged.Merged.{Merged}
 use Rattle.sarif_log.specs.declared.prepared.Prepared.{Prepared}
 use Rattle.sarif_merge.specs.Given.{inputs_of}
@@ -40,7 +40,7 @@ policy_in m = m.asked.now.options.now.policy
 -- why it is rejected: for a reason of the merge, and neither a read nor a write failed
 unfoldable pub IsRejection : Merging → MergeFault → Type 0
 IsRejection m fault =
-    IsRefusal (inputs_in m) (policy_in m) (upkeep_in m.asked.now) fault
+    IsRefusal (inputs_in m) (policy_in m) (choice_in m.asked.now) (upkeep_in m.asked.now) fault
     × (exit_status fault.cause ≡ 2)
 
 -- what it requires of runs, and how its results are matched and counted
@@ -96,11 +96,12 @@ AreBaselinesJudged m judged =
 -- everything that is written for it
 unfoldable pub IsReady : Merging → Prepared → Type 0
 IsReady m prepared =
-    IsPreparedFor (inputs_in m) (policy_in m) (reporting_in m.asked.now) (upkeep_in m.asked.now)
-    prepared
+    IsPreparedFor (inputs_in m) (policy_in m) (reporting_in m.asked.now) (choice_in m.asked.now)
+    (upkeep_in m.asked.now) prepared
 
 -- its merged log, and what is for later merges
 unfoldable pub IsMergeOf : Merging → Merged → Type 0
 IsMergeOf m merged =
     IsMerged (inputs_in m) (policy_in m) (reporting_in m.asked.now) merged
-    × IsLifeOf (inputs_in m) (policy_in m) (upkeep_in m.asked.now) merged.life
+    × IsLifeOf (inputs_in m) (policy_in m) (choice_in m.asked.now) (upkeep_in m.asked.now)
+    merged.life

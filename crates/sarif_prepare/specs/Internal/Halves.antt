@@ -10,7 +10,7 @@ use Rattle.sarif_runs.specs.Placed.{Placed}
 use Rattle.sarif_results.specs.declared.draft.Draft.{Draft}
 use Rattle.sarif_results.specs.Drafts.{applied_of, drafts_by}
 use Rattle.sarif_prepare.specs.declared.halves.Half.{Half}
-use Rattle.sarif_log.specs.LogBy.{listing_of}
+use Rattle.sarif_log.specs.LogBy.{limited_records, listing_of}
 
 -- the drafts among outcomes
 abbrev pub with_draft : Option Draft → List Draft → List Draft
@@ -21,10 +21,18 @@ abbrev pub drafts_in : List Outcome → List Draft
 drafts_in [] = []
 drafts_in (outcome ∷ outcomes) = with_draft outcome.draft (drafts_in outcomes)
 
--- the runs of logs
-pub record IsCurrent (file : File) (runs : List Placed) (half : Half) : Type 0 where
+-- the runs of logs, as they were judged
+pub record IsFound (file : File) (runs : List Placed) (half : Half) : Type 0 where
   pub opened : map placed_of half.runs.items ≡ runs
   pub records : half.records.items ≡ records_of runs
   pub drafts : half.drafts.items
       ≡ drafts_by (listing_of file) (applied_of file) (records_of runs)
+      (flat_map results_of (run_values runs))
+
+-- the runs of logs, where each result has the entries that are used up before it
+pub record IsCurrent (file : File) (runs : List Placed) (half : Half) : Type 0 where
+  pub opened : map placed_of half.runs.items ≡ runs
+  pub records : half.records.items ≡ limited_records file runs
+  pub drafts : half.drafts.items
+      ≡ drafts_by (listing_of file) (applied_of file) (limited_records file runs)
       (flat_map results_of (run_values runs))

@@ -7,8 +7,10 @@ use Rattle.sarif_runs.specs.Placed.{Placed}
 use Rattle.sarif_upkeep.specs.Merge.{Merge}
 use Rattle.sarif_prepare.specs.declared.asked.Asked.{Asked}
 use Rattle.sarif_prepare.specs.declared.file_read.FileRead.{FileRead}
-use Rattle.sarif_prepare.specs.declared.keeping.Sides.{Sides}
-use Rattle.sarif_prepare.specs.Kept.{bytes_of, merge_of, IsKept, IsUnkept}
+use Rattle.sarif_prepare.specs.declared.pairing.Sides.{Sides}
+use Rattle.sarif_prepare.specs.Asked.{choice_in}
+use Rattle.sarif_prepare.specs.Chosen.{chosen_merge}
+use Rattle.sarif_prepare.specs.Kept.{bytes_of, IsKept, IsUnkept}
 use Rattle.sarif_prepare.specs.Internal.Together.{AreTogether}
 
 -- the two sides are those of these runs of logs and of baselines
@@ -16,11 +18,11 @@ abbrev pub AreOfRuns : FileRead → Sides → List Placed → List Placed → Ty
 AreOfRuns rules sides current_runs baseline_runs =
     AreTogether rules.file.now current_runs baseline_runs sides.current.now sides.baselines.now
 
--- the merge of these runs
+-- the merge of these runs, with the choice if there is one
 abbrev pub merge_by : FileRead → Asked → List Placed → List Placed → Merge
 merge_by rules asked current_runs baseline_runs =
-    merge_of asked.options.now.checks.matching rules.file.now (bytes_of rules)
-    asked.options.now.policy current_runs baseline_runs
+    chosen_merge asked.options.now.checks.matching rules.file.now (bytes_of rules)
+    asked.options.now.policy (choice_in asked) current_runs baseline_runs
 
 -- what is given for later merges is that of the merge of the sides' runs
 abbrev pub KeepsIfOk : FileRead → Asked → Sides → Option Upkeep → Result Life MergeFault → Type 0

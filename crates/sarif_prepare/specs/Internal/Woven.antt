@@ -1,6 +1,6 @@
 -- Findings and copies in one list again, as they are written.
 use Rattle.std.specs.Prelude.{◌≡◌, ◌≤◌, ◌+◌, ◌*◌, Bool, false, true, List, [], Some, map, length}
-use Rattle.std.specs.List.{AllByRecursion}
+use Rattle.std.specs.List.{AllByRecursion, flat_map}
 use Rattle.sarif_copies.specs.Copies.{copies_of, numbers_of, spread}
 use Rattle.sarif_entries.specs.File.{File}
 use Rattle.std.specs.declared.alloc.Global.{Global}
@@ -10,13 +10,15 @@ use Rattle.sarif_log.specs.Internal.Texts.{own_count, present_results, ArePartsO
 use Rattle.sarif_log.specs.declared.merged_text.Side.{Side}
 use Rattle.sarif_log.specs.declared.prepared.CopyFlags.{CopyFlags}
 use Rattle.sarif_model.specs.Limits.{most_results, most_runs}
-use Rattle.sarif_model.specs.Run.{results_total}
+use Rattle.sarif_model.specs.Run.{results_of, results_total}
 use Rattle.sarif_model.specs.declared.kinds.State.{State}
 use Rattle.sarif_model.specs.declared.kinds.State.TheVariants.{New}
 use Rattle.sarif_once.specs.Once.{without_copies}
 use Rattle.sarif_prepare.specs.Internal.Apart.{current_drafts, AreBaselineCopies, AreCurrentCopies}
 use Rattle.sarif_prepare.specs.Internal.Baselines.{IsLeft}
-use Rattle.sarif_prepare.specs.Internal.Together.{AreTogether}
+use Rattle.sarif_prepare.specs.Internal.Together.{AreFound}
+use Rattle.sarif_prepare.specs.Internal.Limiting.{AreChanges}
+use Rattle.sarif_suppress.specs.Limited.{all_spent}
 use Rattle.sarif_prepare.specs.declared.once.SplitSides.{SplitSides}
 use Rattle.sarif_prepare.specs.declared.woven.CurrentWoven.{CurrentWoven}
 use Rattle.sarif_prepare.specs.declared.woven.LeftWoven.{LeftWoven}
@@ -44,8 +46,11 @@ pub record AreWhole (current_runs baseline_runs : List Placed) : Type 0 where
 pub record AreApart (file : File) (current_runs baseline_runs : List Placed) (split : SplitSides)
     : Type 0 where
   pub whole : AreWhole current_runs baseline_runs
-  pub together : AreTogether file (without_copies current_runs) (without_copies baseline_runs)
+  pub found : AreFound file (without_copies current_runs) (without_copies baseline_runs)
       split.current split.baselines
+  pub changes : AreChanges file (records_of (without_copies current_runs))
+      (all_spent file (records_of (without_copies current_runs)))
+      (flat_map results_of (run_values (without_copies current_runs))) split.changes
   pub current_copies : AreCurrentCopies file current_runs split.current_copies
   pub baseline_copies : AreBaselineCopies baseline_runs split.baseline_copies
 

@@ -1,5 +1,5 @@
 -- The merge that a matched merge is, as the code holds it.
-use Rattle.std.specs.Prelude.{◌≡◌, ◌≤◌, ℕ, List, [], Option, Some, None, Ok, map, length, option_map}
+use Rattle.std.specs.Prelude.{◌≡◌, ◌≤◌, ℕ, List, [], Option, Some, None, Ok, map, length, option_map, IfSome}
 use Rattle.sarif_model.specs.Limits.{most_results}
 use Rattle.sarif_model.specs.Run.{results_total}
 use Rattle.sarif_entries.specs.File.{file_of, File}
@@ -44,5 +44,8 @@ pub record IsMatched (m : Merge) (matched : Matched) : Type 0 where
   pub read : IsFileOf m.bytes m.file
   pub policy : matched.policy ≡ m.policy
   pub matching : matched.matching ≡ m.matching
+  pub chosen : option_map (λ marks. marks.now) matched.chosen ≡ m.chosen
+  pub chosen_long : IfSome m.chosen (λ marks. length marks ≡ length m.records)
+  pub fits : m.misfit ≡ None
   pub current : IsCurrent m matched.current
   pub before : IsBefore m matched.before

@@ -1,6 +1,7 @@
 use Rattle.std.proofs.Common.{ap, map}
 use Rattle.sarif_match.specs.Partners.{partners_in}
 use Rattle.sarif_counts.specs.Hits.{verdict_of}
+use Rattle.sarif_suppress.specs.Limited.{limited}
 use Rattle.sarif_suppress.specs.Suppressing.{is_suppressed, matching_numbers}
 use Rattle.sarif_log.specs.LogBy.{states_of, taken_of}
 use Rattle.sarif_laws_external.proofs.SameResults.{counts_same, gate_same, written_same}
@@ -29,10 +30,10 @@ pub returns-clause-taken : goal.returns-clause-taken
 returns-clause-taken c = λ version current baseline i. taken_of version (records_same current i) (records_same baseline i)
 
 pub returns-clause-matching : goal.returns-clause-matching
-returns-clause-matching c = λ file runs. ap (map (matching_numbers file)) (records_same runs)
+returns-clause-matching c = λ file runs. ap (λ rs. map (matching_numbers file) (limited file rs)) (records_same runs)
 
 pub returns-clause-suppressed : goal.returns-clause-suppressed
-returns-clause-suppressed c = λ file runs. ap (map (is_suppressed file)) (records_same runs)
+returns-clause-suppressed c = λ file runs. ap (λ rs. map (is_suppressed file) (limited file rs)) (records_same runs)
 
 pub returns-clause-results : goal.returns-clause-results
 returns-clause-results c = written_same

@@ -2,7 +2,8 @@ use Rattle.std.proofs.Common.{List, â„•, Some, length, arith, rules, sym, ap, â—
 use Rattle.std.specs.Option.{option_map}
 use Rattle.sarif_match.specs.Key.{group_of}
 use Rattle.sarif_match.specs.KeyParts.{Group, fingerprint_here_parts}
-use Rattle.sarif_match.proofs.ValueLemmas.{same_text, value_of-here}
+use Rattle.sarif_evidence.proofs.EqualLemmas.{same_text}
+use Rattle.sarif_match.proofs.ValueLemmas.{value_of-here}
 use Rattle.sarif_match.proofs.finer_keys.fingerprint_here_key.Goals as goal
 
 pub returns-then-eq : goal.returns-then-eq

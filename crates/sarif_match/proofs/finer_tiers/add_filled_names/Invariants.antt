@@ -1,6 +1,6 @@
 use Rattle.std.proofs.Common.{◌≡◌, map, drop}
 use Rattle.std.specs.BTreeSet.{keys}
-use Rattle.sarif_match.specs.Seen.{seen}
+use Rattle.sarif_evidence.specs.Seen.{seen}
 use Rattle.sarif_match.specs.Tiers.{with_names, names_of}
 use Rattle.sarif_match.proofs.finer_tiers.add_filled_names.Given as goal
 

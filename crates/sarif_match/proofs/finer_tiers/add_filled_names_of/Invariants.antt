@@ -1,6 +1,6 @@
 use Rattle.std.proofs.Common.{◌≡◌, map, drop}
 use Rattle.std.specs.BTreeSet.{keys}
-use Rattle.sarif_match.specs.Seen.{filled}
+use Rattle.sarif_evidence.specs.Seen.{filled}
 use Rattle.sarif_match.specs.Tiers.{with_names}
 use Rattle.sarif_match.proofs.finer_tiers.add_filled_names_of.Given as goal
 

@@ -1,7 +1,8 @@
 use Rattle.std.proofs.Common.{List, ℕ, Some, length, arith, rules, sym, ap, ◌∙◌}
 use Rattle.std.specs.Option.{option_map}
 use Rattle.sarif_match.specs.KeyParts.{fingerprint_parts}
-use Rattle.sarif_match.proofs.ValueLemmas.{same_text, value_of-here}
+use Rattle.sarif_evidence.proofs.EqualLemmas.{same_text}
+use Rattle.sarif_match.proofs.ValueLemmas.{value_of-here}
 use Rattle.sarif_match.proofs.keys.fingerprint_key.Goals as goal
 
 pub returns-then-eq : goal.returns-then-eq

@@ -1,5 +1,5 @@
 use Rattle.std.proofs.Common.{◌≡◌, map, take}
-use Rattle.sarif_match.specs.Seen.{seen}
+use Rattle.sarif_evidence.specs.Seen.{seen}
 use Rattle.sarif_match.proofs.seeing.seen_in_order.Given as goal
 
 abbrev pub invariant-loop-finding : goal.invariant-loop-finding

@@ -3,7 +3,7 @@ use Rattle.std.specs.HashMap.{get}
 use Rattle.sarif_match.specs.declared.numbers.Value.TheVariants as value
 use Rattle.sarif_match.specs.Internal.Numbers.{lent, members_as, same_value}
 use Rattle.sarif_match.proofs.NumberLemmas.{short_of_members}
-use Rattle.sarif_match.proofs.PartsLemmas.{pairs_refl}
+use Rattle.sarif_evidence.proofs.EqualLemmas.{pairs_refl}
 use Rattle.sarif_match.proofs.shortening.short_members.Goals as goal
 
 pub returns-clause-short : goal.returns-clause-short

@@ -1,7 +1,7 @@
 use Rattle.std.proofs.Common.{None, Some}
 use Rattle.sarif_match.specs.declared.numbers.Value.TheVariants as value
 use Rattle.sarif_match.specs.Internal.Numbers.{lent}
-use Rattle.sarif_match.proofs.PartsLemmas.{message_refl}
+use Rattle.sarif_evidence.proofs.EqualLemmas.{message_refl}
 use Rattle.sarif_match.proofs.shortening.short_message.Goals as goal
 
 pub returns-clause-short : goal.returns-clause-short

@@ -2,7 +2,7 @@ use Rattle.std.proofs.Common.{rules, ◌≡◌}
 use Rattle.sarif_match.specs.declared.numbers.Value.TheVariants as value
 use Rattle.sarif_match.specs.Internal.Numbers.{Grows, lent, message_as, place_as}
 use Rattle.sarif_match.proofs.NumberLemmas.{grows_more, members_later, numbered_later}
-use Rattle.sarif_match.proofs.PartsLemmas.{text_refl}
+use Rattle.sarif_evidence.proofs.EqualLemmas.{text_refl}
 use Rattle.sarif_match.proofs.shortening.short_record.Goals as goal
 
 pub returns-clause-short : goal.returns-clause-short

@@ -5,7 +5,7 @@ use Rattle.std.specs.List.{list_any}
 use Rattle.serde_json.specs.Data.{Data}
 use Rattle.serde_json.specs.Written.{has_float}
 use Rattle.sarif_runs.specs.Judging.{records_of, run_values}
-use Rattle.sarif_log.specs.LogBy.{current_runs, leftover_runs, states_of, taken_of}
+use Rattle.sarif_log.specs.LogBy.{current_runs, leftover_runs, limited_records, states_of, taken_of}
 use Rattle.sarif_inputs.specs.Inputs.{input_runs, baseline_runs, log_sources, baseline_sources}
 use Rattle.sarif_inputs.proofs.ReadFacts.{whole}
 use Rattle.sarif_merge.specs.MergedLog.{file_given}
@@ -20,7 +20,7 @@ returns c = λ inputs.
     let before = baseline_runs inputs in
     let reads = c.read_runs_hold_no_fraction.ensures in
     both_whole (current_runs inputs.checks.matching (file_given inputs) now before) (leftover_runs inputs.checks.matching now before)
-    (c.written_runs_hold_no_fraction.ensures.current (file_given inputs) (records_of now) (states_of inputs.checks.matching (records_of now) (records_of before))
+    (c.written_runs_hold_no_fraction.ensures.current (file_given inputs) (limited_records (file_given inputs) now) (states_of inputs.checks.matching (records_of now) (records_of before))
     (run_values now) (whole reads (log_sources inputs)))
     (c.written_runs_hold_no_fraction.ensures.baseline (records_of before) (taken_of inputs.checks.matching (records_of now) (records_of before)) (run_values before)
     (whole reads (baseline_sources inputs)))

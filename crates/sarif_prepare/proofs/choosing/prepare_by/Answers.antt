@@ -1,9 +1,9 @@
 use Rattle.std.proofs.Common.{IfErr, IfOk, subst}
 use Rattle.std.proofs.lemmas.Result.{IfOk-weaker}
-use Rattle.sarif_prepare.specs.Asked.{reporting_in, upkeep_in}
+use Rattle.sarif_prepare.specs.Asked.{choice_in, reporting_in, upkeep_in}
 use Rattle.sarif_prepare.specs.Kept.{bytes_of, IsKept, IsUnkept}
 use Rattle.sarif_results.specs.Internal.Judged.{placed_in}
-use Rattle.sarif_runs.specs.Judging.{records_of}
+use Rattle.sarif_log.specs.LogBy.{limited_records}
 use Rattle.sarif_prepare.proofs.Chosen.{counted_all, counted_once, merge_all, merge_once}
 use Rattle.sarif_prepare.proofs.choosing.prepare_by.Goals as goal
 
@@ -17,13 +17,13 @@ pub returns-then-asked-clause-kept : goal.returns-then-asked-clause-kept
 returns-then-asked-clause-kept g c =
     subst (λ m. IfOk c.prepare_once.result (λ prepared. IsKept m (upkeep_in c.args.asked.now) prepared.life))
     (merge_once c.args.asked.now.options.now.checks c.args.rules.now.file.now (bytes_of c.args.rules.now) c.args.asked.now.options.now.policy
-    (placed_in c.args.current) (placed_in c.args.baseline) c.if-asked.true) c.prepare_once.ensures.kept
+    (choice_in c.args.asked.now) (placed_in c.args.current) (placed_in c.args.baseline) c.if-asked.true) c.prepare_once.ensures.kept
 
 pub returns-then-asked-clause-unkept : goal.returns-then-asked-clause-unkept
 returns-then-asked-clause-unkept g c =
     subst (λ m. IfErr c.prepare_once.result (IsUnkept m (upkeep_in c.args.asked.now)))
     (merge_once c.args.asked.now.options.now.checks c.args.rules.now.file.now (bytes_of c.args.rules.now) c.args.asked.now.options.now.policy
-    (placed_in c.args.current) (placed_in c.args.baseline) c.if-asked.true) c.prepare_once.ensures.unkept
+    (choice_in c.args.asked.now) (placed_in c.args.current) (placed_in c.args.baseline) c.if-asked.true) c.prepare_once.ensures.unkept
 
 pub returns-else-asked-clause-prepared : goal.returns-else-asked-clause-prepared
 returns-else-asked-clause-prepared g c =
@@ -35,17 +35,17 @@ pub returns-else-asked-clause-kept : goal.returns-else-asked-clause-kept
 returns-else-asked-clause-kept g c =
     subst (λ m. IfOk c.prepare.result (λ prepared. IsKept m (upkeep_in c.args.asked.now) prepared.life))
     (merge_all c.args.asked.now.options.now.checks c.args.rules.now.file.now (bytes_of c.args.rules.now) c.args.asked.now.options.now.policy
-    (placed_in c.args.current) (placed_in c.args.baseline) c.if-asked.false) c.prepare.ensures.kept
+    (choice_in c.args.asked.now) (placed_in c.args.current) (placed_in c.args.baseline) c.if-asked.false) c.prepare.ensures.kept
 
 pub returns-else-asked-clause-unkept : goal.returns-else-asked-clause-unkept
 returns-else-asked-clause-unkept g c =
     subst (λ m. IfErr c.prepare.result (IsUnkept m (upkeep_in c.args.asked.now)))
     (merge_all c.args.asked.now.options.now.checks c.args.rules.now.file.now (bytes_of c.args.rules.now) c.args.asked.now.options.now.policy
-    (placed_in c.args.current) (placed_in c.args.baseline) c.if-asked.false) c.prepare.ensures.unkept
+    (choice_in c.args.asked.now) (placed_in c.args.current) (placed_in c.args.baseline) c.if-asked.false) c.prepare.ensures.unkept
 
 pub returns-then-asked-clause-expired : goal.returns-then-asked-clause-expired
 returns-then-asked-clause-expired g c =
-    IfOk-weaker c.prepare_once.result _ _ (λ prepared all. all (records_of (placed_in c.args.current))) c.prepare_once.ensures.expired
+    IfOk-weaker c.prepare_once.result _ _ (λ prepared all. all (limited_records c.args.rules.now.file.now (placed_in c.args.current))) c.prepare_once.ensures.expired
 
 pub returns-else-asked-clause-expired : goal.returns-else-asked-clause-expired
 returns-else-asked-clause-expired g c = IfOk-weaker c.prepare.result _ _ (λ prepared is. is.expired) c.prepare.ensures.prepared

@@ -32,7 +32,7 @@ returns-in-Ok-clause-accepted g c = λ low.
       record {
         verdict = c.accept.ensures.status low;
         from = subst (λ (writers : List (RequestedOutput (Counted g.row.P.Denot))). IsMergedWith g.R.Read.remaining c.args.readers.now c.merge_for.new.readers
-            request.options (reporting_for request writers) (Some request.upkeep) merged) same c.in-Ok.ensures.merged;
+            request.options (reporting_for request writers) request.choice (Some request.upkeep) merged) same c.in-Ok.ensures.merged;
         log = c.accept.ensures.written low;
         reports = c.accept.ensures.reported low (report_for request merged)
             (subst (λ (writers : List (RequestedOutput (Counted g.row.P.Denot))). c.in-Ok.texts.reports.items
@@ -113,7 +113,7 @@ returns-in-Ok-clause-lost g c = λ rises.
     let said = c.accept.ensures.lost (one.1 (inr rises)) (report_for request merged) texts in (
       merged,
       subst (λ (writers : List (RequestedOutput (Counted g.row.P.Denot))). IsMergedWith g.R.Read.remaining c.args.readers.now c.merge_for.new.readers
-          request.options (reporting_for request writers) (Some request.upkeep) merged) same c.in-Ok.ensures.merged,
+          request.options (reporting_for request writers) request.choice (Some request.upkeep) merged) same c.in-Ok.ensures.merged,
       lost_with held merged.log (report_for request merged)
           old new c.args.complaints.now c.accept.new.complaints _ _ _ _ c.in-Ok.ensures.lines c.in-Ok.ensures.summary said,
     )
@@ -154,8 +154,8 @@ returns-in-Ok-clause-faulty g c = λ were.
     elim were.3 [
       | inl faulty ↦ absurd (faulty (ap (λ x. faults_of (given_by x request.options)) same ∙ from.2.faultless))
       | inr large ↦
-          let is : IsTooLargeWith from.0 request.options (Some request.upkeep) large.0 =
-          subst (λ x. IsTooLargeWith x request.options (Some request.upkeep) large.0) same large.1 in
+          let is : IsTooLargeWith from.0 request.options request.choice (Some request.upkeep) large.0 =
+          subst (λ x. IsTooLargeWith x request.options request.choice (Some request.upkeep) large.0) same large.1 in
           absurd (none_found large.0 (sym (ap first from.3.faultless) ∙ is))
     ]
 

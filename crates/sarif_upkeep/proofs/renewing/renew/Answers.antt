@@ -6,7 +6,7 @@ use Rattle.sarif_model.specs.FirstFault.{first}
 use Rattle.sarif_accept.specs.Adding.{once_each}
 use Rattle.sarif_accept.specs.NewFile.{file_text}
 use Rattle.sarif_upkeep.specs.Renewed.{entries_count, kept_in}
-use Rattle.sarif_upkeep.proofs.NewEntries.{accepted_count, added_count, entries_number, faults_are, file_is, kept_long, kept_or_not, too_many}
+use Rattle.sarif_upkeep.proofs.NewEntries.{accepted_count, added_are, added_count, entries_number, faults_are, file_is, kept_long, kept_or_not, too_many}
 use Rattle.sarif_upkeep.proofs.Shown.{in_both}
 use Rattle.sarif_upkeep.proofs.renewing.renew.Goals as goal
 
@@ -51,7 +51,7 @@ returns-clause-made c = λ m is.
     ∙ ap (once_each []) (in_both c.in_ok-shown.shown c.deref.ensures.value c.deref-2.ensures.value c.in_ok-shown.ensures is.matching) in
     let accepted = accepted_count m renewal bytes c.deref-3.result.now c.deref.result.now c.deref-4.result.now is.bytes kept_is accepted_is added_is in
     let added = added_count m renewal bytes c.deref-3.result.now c.deref.result.now c.deref-4.result.now is.bytes kept_is accepted_is added_is in
-    let left = c.count_kept-left.ensures.count ∙ ap (count_by (λ mark. mark)) (c.deref-5.ensures.value ∙ c.in_ok-kept.ensures.kept m is) in
+    let left = c.count_kept-count.ensures.count ∙ ap (count_by (λ mark. mark)) (c.deref-6.ensures.value ∙ c.in_ok-kept.ensures.kept m is) in
     let text =
     c.in_ok-text.ensures.text
     ∙ ap file_text
@@ -62,14 +62,18 @@ returns-clause-made c = λ m is.
     let both = kept_or_not (kept_in m renewal) in
     let entries = entries_number m renewal is.read in
     let all = c.len-all.ensures.count ∙ ap (λ f. length f.entries) is.file in
-    let stays = c.staying_if.ensures m is in
+    let all_added = ap (map (λ r. r.now)) (c.deref-5.ensures.value ∙ sym c.deref-4.ensures.value)
+    ∙ added_are m renewal bytes c.deref-3.result.now c.deref.result.now c.deref-4.result.now is.bytes kept_is accepted_is added_is in
+    let alike = c.in_ok-left.ensures.alike m is all_added in
+    let stays = c.in_ok-left.ensures.stay m is all_added in
     let taken = c.len.ensures ∙ c.in_ok-accepted.accepted.ok.0 ∙ sym accepted_now ∙ accepted in
     let added_all = c.len-2.ensures ∙ c.in_ok-added.added.ok.0 ∙ sym added_now ∙ added in
-    let gone : c.len-all.result - c.count_kept-left.result ≡ count_by (λ kept. not kept) (kept_in m renewal) = omega (arith, all, left, both, many) in
-    let count : c.count_kept-left.result + c.len-2.result ≡ entries_count m renewal = omega (arith, left, added_all, entries) in
+    let gone : c.len-all.result - c.count_kept-count.result ≡ count_by (λ kept. not kept) (kept_in m renewal) = omega (arith, all, left, both, many) in
+    let count : c.count_kept-count.result + c.len-2.result ≡ entries_count m renewal = omega (arith, left, added_all, entries) in
     λ i. record {
       text = text i;
       accepted = taken i;
+      alike = alike i;
       stay = stays i;
       pruned = gone i;
       entries = count i;

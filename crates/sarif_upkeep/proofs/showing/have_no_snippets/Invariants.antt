@@ -1,6 +1,6 @@
 use Rattle.std.proofs.Common.{◌≡◌, map, take}
-use Rattle.sarif_match.specs.Seen.{as_matched}
-use Rattle.sarif_match.specs.declared.version.MatchingVersion.TheVariants.{Two}
+use Rattle.sarif_evidence.specs.Seen.{as_matched}
+use Rattle.sarif_evidence.specs.declared.version.MatchingVersion.TheVariants.{Two}
 use Rattle.sarif_upkeep.proofs.showing.have_no_snippets.Given as goal
 
 -- those so far have none

@@ -1,5 +1,5 @@
 use Rattle.std.proofs.Common.{◌≡◌, map, take}
-use Rattle.sarif_match.specs.Seen.{as_matched}
+use Rattle.sarif_evidence.specs.Seen.{as_matched}
 use Rattle.sarif_upkeep.proofs.showing.look_at.Given as goal
 
 -- what the version reads from the results so far

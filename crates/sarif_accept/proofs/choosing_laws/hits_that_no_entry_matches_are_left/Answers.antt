@@ -1,5 +1,0 @@
-use Rattle.sarif_accept.proofs.After.{list_begins_adding}
-use Rattle.sarif_accept.proofs.choosing_laws.hits_that_no_entry_matches_are_left.Goals as goal
-
-pub returns-clause-begins : goal.returns-clause-begins
-returns-clause-begins c = list_begins_adding

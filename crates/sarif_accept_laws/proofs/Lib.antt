@@ -1,0 +1,14 @@
+pub mod After
+pub mod AfterChosen
+pub mod ChosenCounted
+pub mod EntryMatches
+pub mod EntryWhole
+pub mod FileRead
+pub mod GivenFile
+pub mod GuidFits
+pub mod Kept
+pub mod NewFileRead
+pub mod Next
+pub mod NextMerge
+pub mod SameConditions
+pub mod SameVersion

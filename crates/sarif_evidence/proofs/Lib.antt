@@ -1,0 +1,4 @@
+pub mod EqualLemmas
+pub mod PackedLemmas
+pub mod RisingLemmas
+pub mod StateLemmas

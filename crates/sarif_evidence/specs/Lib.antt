@@ -1,0 +1,5 @@
+pub mod EqualParts
+pub mod Evidence
+pub mod Internal
+pub mod Seen
+pub mod State

@@ -1,0 +1,6 @@
+pub mod JustKnown
+pub mod NamesKept
+pub mod Readable
+pub mod RegionRead
+pub mod Rising
+pub mod SamePartners

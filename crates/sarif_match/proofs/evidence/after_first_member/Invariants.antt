@@ -1,7 +1,0 @@
-use Rattle.std.proofs.Common.{◌≡◌, drop}
-use Rattle.sarif_match.specs.Seen.{filled}
-use Rattle.sarif_match.proofs.evidence.after_first_member.Given as goal
-
-abbrev pub invariant-loop-number : goal.invariant-loop-number
-invariant-loop-number l =
-    filled (drop l.number l.members) ≡ filled l.members

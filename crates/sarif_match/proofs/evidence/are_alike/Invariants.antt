@@ -1,8 +1,0 @@
-use Rattle.std.proofs.Common.{◌≡◌, drop}
-use Rattle.sarif_match.specs.KeyParts.{pairs_eq}
-use Rattle.sarif_match.specs.Seen.{filled}
-use Rattle.sarif_match.proofs.evidence.are_alike.Given as goal
-
-abbrev pub invariant-loop-member : goal.invariant-loop-member
-invariant-loop-member l =
-    pairs_eq (filled (drop l.member-index l.members)) (filled l.rest) ≡ pairs_eq (filled l.members) (filled l.others)

@@ -1,7 +1,0 @@
-use Rattle.std.proofs.Common.{◌≡◌, drop}
-use Rattle.sarif_match.specs.Seen.{filled}
-use Rattle.sarif_match.proofs.evidence.has_filled.Given as goal
-
-abbrev pub invariant-loop-member : goal.invariant-loop-member
-invariant-loop-member l =
-    filled (drop l.member-index l.members) ≡ filled l.members

@@ -1,7 +1,0 @@
-use Rattle.std.proofs.Common.{◌≡◌, drop}
-use Rattle.sarif_match.specs.Seen.{packed}
-use Rattle.sarif_match.proofs.evidence.is_white_alone.Given as goal
-
-abbrev pub invariant-loop-byte : goal.invariant-loop-byte
-invariant-loop-byte l =
-    packed (drop l.byte-index l.bytes) ≡ packed l.bytes

@@ -1,5 +1,0 @@
-use Rattle.sarif_match.proofs.OrderLemmas.{each_matched_in}
-use Rattle.sarif_match.proofs.laws.the_same_results_match_in_any_order.Goals as goal
-
-pub returns : goal.returns
-returns c = λ version current baseline i reordered within. each_matched_in version current baseline reordered i within

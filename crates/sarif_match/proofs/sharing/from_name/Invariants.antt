@@ -1,6 +1,0 @@
-use Rattle.std.proofs.Common.{◌≡◌, drop}
-use Rattle.sarif_match.specs.Internal.Rising.{from_name}
-use Rattle.sarif_match.proofs.sharing.from_name.Given as goal
-
-abbrev pub invariant-loop-number : goal.invariant-loop-number
-invariant-loop-number l = from_name l.name (drop l.number l.members) ≡ from_name l.name l.members

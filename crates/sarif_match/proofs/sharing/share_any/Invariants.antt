@@ -1,8 +1,0 @@
-use Rattle.std.proofs.Common.{◌≡◌, drop}
-use Rattle.sarif_match.specs.Seen.{filled}
-use Rattle.sarif_match.specs.Evidence.{share_member}
-use Rattle.sarif_match.proofs.sharing.share_any.Given as goal
-
-abbrev pub invariant-loop-member : goal.invariant-loop-member
-invariant-loop-member l =
-    share_member (filled (drop l.member-index l.members)) (filled l.others) ≡ share_member (filled l.members) (filled l.others)

@@ -1,0 +1,127 @@
+-- The marks that are spread over the current results are those of the merged log.
+use Rattle.std.proofs.Common.{◌≡◌, ◌⊎◌, inl, inr, ◌++◌, ℕ, List, Bool, Option, Some, map, length, refl, sym, ap, ◌∙◌}
+use Rattle.std.proofs.lemmas.List.{length-map, map-append}
+use Rattle.std.proofs.lemmas.List.Concat.{flat_map-append}
+use Rattle.std.specs.Prelude.{flat_map, option_map}
+use Rattle.serde_json.specs.Data.{Data}
+use Rattle.sarif_choice.specs.Choice.{is_chosen, unfit_of}
+use Rattle.sarif_choice.specs.declared.choice.Choice.{Choice}
+use Rattle.sarif_choice.specs.declared.choice.Unfit.{Unfit}
+use Rattle.sarif_model.specs.MergeFault.{out_of_memory}
+use Rattle.sarif_model.specs.declared.kinds.State.{State}
+use Rattle.sarif_model.specs.declared.merge_fault.At.{At}
+use Rattle.sarif_model.specs.declared.merge_fault.MergeFault.{MergeFault}
+use Rattle.sarif_model.specs.declared.refusal.Refusal.{Refusal}
+use Rattle.sarif_model.specs.declared.refusal.Refusal.TheVariants.{Fault, OutOfMemory}
+use Rattle.sarif_options.specs.declared.policy.Policy.{Policy}
+use Rattle.sarif_results.specs.declared.draft.Draft.{Draft}
+use Rattle.sarif_upkeep.specs.Life.{no_hit}
+use Rattle.sarif_entries.specs.File.{File}
+use Rattle.sarif_findings.specs.Reported.{reported_in}
+use Rattle.sarif_findings.specs.declared.finding.Finding.{Finding}
+use Rattle.sarif_findings.specs.declared.reporting.Reporting.{Reporting}
+use Rattle.sarif_log.specs.LogBy.{current_runs, leftover_runs, limited_records, listing_of, runs_by, states_of}
+use Rattle.sarif_log.proofs.Sides.{states_long}
+use Rattle.sarif_match.specs.Partners.{partners_in}
+use Rattle.sarif_evidence.specs.declared.version.MatchingVersion.{MatchingVersion}
+use Rattle.sarif_model.specs.Run.{results_of}
+use Rattle.sarif_results.specs.Drafts.{applied_of, drafts_by}
+use Rattle.sarif_runs.specs.Judging.{records_of, run_values}
+use Rattle.sarif_runs.specs.Placed.{Placed}
+use Rattle.sarif_runs.specs.Internal.Spots.{spots_from}
+use Rattle.sarif_runs.proofs.AllSpots.{spots_count}
+use Rattle.sarif_prepare.specs.Chosen.{at_of, hits_alone, marks_in, misfit_in}
+use Rattle.sarif_prepare.specs.Internal.Marking.{marked_each, rejected, spread_told}
+use Rattle.sarif_choice.specs.declared.choice.Choosing.{Choosing}
+use Rattle.sarif_prepare.specs.Internal.Telling.{own_results, pair_at, told_each}
+use Rattle.sarif_prepare.specs.Internal.Together.{AreTogether, IsPaired}
+use Rattle.sarif_prepare.specs.declared.baselines.Baselines.{Baselines}
+use Rattle.sarif_prepare.specs.declared.halves.Half.{Half}
+use Rattle.sarif_prepare.specs.declared.pairing.Paired.{Paired}
+use Rattle.sarif_prepare.proofs.MarkedRuns.{marked_long, runs_marked, spread_marked}
+use Rattle.sarif_prepare.proofs.ToldRuns.{pairs_of_all}
+use Rattle.sarif_prepare.proofs.MatchedRecords.{limited_total, matched_records}
+use Rattle.sarif_prepare.specs.Internal.Limiting.{unspent}
+use Rattle.sarif_log.proofs.Limits.{limited_long}
+use Rattle.sarif_prepare.proofs.ToldSides.{current_told}
+use Rattle.sarif_prepare.proofs.WrittenSides.{current_long}
+
+module _ (v : MatchingVersion) (reporting : Reporting) (choice : Choice) (file : File) (now before : List Placed) (c : Half) (b : Baselines) (p : Paired)
+    (h : AreTogether file now before c b) (q : IsPaired v c b p) where
+  current_marked : marked_each reporting choice (map (pair_at now) (spots_from 0 now)) c.drafts.items p.states.items
+      ≡ marks_in reporting choice (current_runs v file now before)
+  current_marked =
+      let cs = records_of now in
+      let bs = records_of before in
+      let states =
+      q.states ∙ ap (λ rs. map Some (states_of v rs b.records.items)) (matched_records file now c h.is_current) ∙ ap (λ rs. map Some (states_of v cs rs)) h.are_baselines.records in
+      ap (λ ps. marked_each reporting choice ps c.drafts.items p.states.items) (pairs_of_all now)
+      ∙ ap (λ ds. marked_each reporting choice (flat_map own_results (run_values now)) ds p.states.items) h.is_current.drafts
+      ∙ ap (marked_each reporting choice (flat_map own_results (run_values now))
+      (drafts_by (listing_of file) (applied_of file) (limited_records file now) (flat_map results_of (run_values now)))) states
+      ∙ runs_marked reporting choice (listing_of file) (applied_of file) (limited_records file now) (states_of v cs bs) (run_values now) h.current_are_runs
+      (limited_total file now h.current_records) (states_long v bs (partners_in v cs bs) 0 cs ∙ sym (limited_long file cs))
+
+  pairs_long : length (map (pair_at now) (spots_from 0 now)) ≡ length c.drafts.items
+  pairs_long =
+      length-map (spots_from 0 now) (pair_at now) ∙ spots_count 0 now ∙ sym h.current_records ∙ sym (current_long file now before c b h)
+
+  pub states_many : length p.states.items ≡ length c.drafts.items
+  states_many =
+      let cs = map unspent c.records.items in
+      let bs = b.records.items in
+      ap length q.states ∙ length-map (states_of v cs bs) Some ∙ states_long v bs (partners_in v cs bs) 0 cs ∙ ap length (matched_records file now c h.is_current)
+      ∙ sym (current_long file now before c b h)
+
+  pub marks_long : length (marks_in reporting choice (current_runs v file now before)) ≡ length (records_of now)
+  marks_long =
+      ap length (sym current_marked)
+      ∙ marked_long reporting choice (map (pair_at now) (spots_from 0 now)) c.drafts.items p.states.items pairs_long states_many
+      ∙ current_long file now before c b h
+
+  pub spread_is : (hits : List Finding) (marks : List Bool) → hits ≡ flat_map (reported_in reporting) (runs_by v file now before)
+      → marks ≡ map (is_chosen choice) hits
+      → spread_told reporting c.drafts.items p.states.items marks 0 ≡ marks_in reporting choice (current_runs v file now before)
+  spread_is hits marks hits_are marks_are =
+      let front = flat_map (reported_in reporting) (current_runs v file now before) in
+      let back = flat_map (reported_in reporting) (leftover_runs v now before) in
+      let told = told_each reporting (map (pair_at now) (spots_from 0 now)) c.drafts.items p.states.items in
+      let begins : marks ≡ map (is_chosen choice) told ++ map (is_chosen choice) back =
+      marks_are ∙ ap (map (is_chosen choice)) (hits_are ∙ flat_map-append (reported_in reporting) (current_runs v file now before) (leftover_runs v now before))
+      ∙ map-append (is_chosen choice) front back
+      ∙ ap (λ fs. map (is_chosen choice) fs ++ map (is_chosen choice) back) (sym (current_told v reporting file now before c b p h q)) in
+      spread_marked reporting choice (map (pair_at now) (spots_from 0 now)) c.drafts.items p.states.items marks (map (is_chosen choice) back) 0 pairs_long begins
+      ∙ current_marked
+
+-- ---- what is marked, and what fits no chosen hit
+
+module _ (policy : Policy) (choosing : Choosing) (reporting : Reporting) (roots : List (List ℕ)) (reporting_is : reporting ≡ hits_alone policy roots)
+    (roots_are : roots ≡ choosing.roots) where
+  alone : reporting ≡ hits_alone policy choosing.roots
+  alone = reporting_is ∙ ap (hits_alone policy) roots_are
+
+  pub mark_is : (v : MatchingVersion) (file : File) (now before : List Placed) (c : Half) (b : Baselines) (p : Paired)
+      → AreTogether file now before c b → IsPaired v c b p
+      → (hits : List Finding) (marks given spread : List Bool) (drafts : List Draft) (states : List (Option State))
+      → hits ≡ flat_map (reported_in reporting) (runs_by v file now before) → marks ≡ map (is_chosen choosing.choice) hits → given ≡ marks
+      → drafts ≡ c.drafts.items → states ≡ p.states.items → spread ≡ spread_told reporting drafts states given 0
+      → spread ≡ marks_in (hits_alone policy choosing.roots) choosing.choice (current_runs v file now before)
+  mark_is v file now before c b p h q hits marks given spread drafts states hits_are marks_are given_is drafts_are states_are spread_are =
+      spread_are ∙ ap (λ r. spread_told r drafts states given 0) alone
+      ∙ ap (λ l. spread_told (hits_alone policy choosing.roots) l states given 0) drafts_are
+      ∙ ap (λ l. spread_told (hits_alone policy choosing.roots) c.drafts.items l given 0) states_are
+      ∙ spread_is v (hits_alone policy choosing.roots) choosing.choice file now before c b p h q hits given
+      (hits_are ∙ ap (λ r. flat_map (reported_in r) (runs_by v file now before)) alone) (given_is ∙ marks_are)
+
+  pub misfit_is : (runs : List Data) (hits given : List Finding) → hits ≡ flat_map (reported_in reporting) runs → given ≡ hits
+      → misfit_in (hits_alone policy choosing.roots) choosing.choice runs ≡ option_map at_of (unfit_of choosing.choice given)
+  misfit_is runs hits given hits_are given_is =
+      ap (λ r. option_map at_of (unfit_of choosing.choice (flat_map (reported_in r) runs))) (sym alone)
+      ∙ ap (λ hs. option_map at_of (unfit_of choosing.choice hs)) (sym (given_is ∙ hits_are))
+
+-- the error that is reported
+pub rejected_err : (choice : Choice) (hits : List Finding) (refusal : Refusal Unfit) (fault : MergeFault) → fault ≡ rejected refusal
+    → ((unfit : Unfit) → refusal ≡ Fault unfit → unfit_of choice hits ≡ Some unfit)
+    → (fault ≡ out_of_memory) ⊎ ((at : At) × (fault ≡ no_hit at) × (option_map at_of (unfit_of choice hits) ≡ Some at))
+rejected_err choice hits (Fault unfit) fault is found = inr (at_of unfit, is, ap (option_map at_of) (found unfit refl))
+rejected_err choice hits OutOfMemory fault is found = inl is

@@ -1,0 +1,11 @@
+use Rattle.std.proofs.Common.{◌≡◌, ◌++◌, drop, length}
+use Rattle.sarif_once.specs.Once.{marked}
+use Rattle.sarif_read.specs.Unmarked.{unmarked}
+use Rattle.sarif_prepare.proofs.changes.split_drafts.Given as goal
+
+abbrev pub invariant-loop-is_copy : goal.invariant-loop-is_copy
+invariant-loop-is_copy l = record {
+  long : length l.drafts.rest.items ≡ length (drop l.is_copy-index l.copies);
+  findings : l.split.findings.items ++ unmarked (drop l.is_copy-index l.copies) l.drafts.rest.items ≡ unmarked l.copies l.fn.drafts.items;
+  copies : l.split.copies.items ++ marked (drop l.is_copy-index l.copies) l.drafts.rest.items ≡ marked l.copies l.fn.drafts.items;
+}

@@ -1,0 +1,13 @@
+use Rattle.sarif_prepare.proofs.marking.mark_if_chosen.Goals as goal
+
+pub mark-requires-clause-together : goal.mark-requires-clause-together
+mark-requires-clause-together g c κs within = (c.args.rules.now.file.now, c.requires.together.0, c.requires.together.1, c.requires.together.2)
+
+pub returns-in-Some-clause-ok : goal.returns-in-Some-clause-ok
+returns-in-Some-clause-ok g c = λ now before h. rw c.in-Some.is (c.mark.ensures.ok c.args.rules.now.file.now now before h)
+
+pub returns-in-Some-clause-fits : goal.returns-in-Some-clause-fits
+returns-in-Some-clause-fits g c = λ now before h. rw c.in-Some.is (c.mark.ensures.fits c.args.rules.now.file.now now before h)
+
+pub returns-in-Some-clause-err : goal.returns-in-Some-clause-err
+returns-in-Some-clause-err g c = λ now before h. rw c.in-Some.is (c.mark.ensures.err c.args.rules.now.file.now now before h)
