@@ -143,7 +143,7 @@ class Renewed:
     def __init__(self, merge, accept=False, prune=False, reason=None, until=None, choice=None):
         goes = [prune and self.goes(merge, number) for number in range(len(merge.entries))]
         kept = [it for it, is_gone in zip(merge.file["suppressions"], goes) if not is_gone]
-        hits = [it for it in merge.merged() if accept and is_hit(merge, it)]
+        hits = [it for it in merge.merged() if accept and is_hit(merge, it) and merge.is_inside(it)]
         chosen = able(choice.chosen(hits) if choice else hits)
         added = []
         seen = set()

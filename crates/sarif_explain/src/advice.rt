@@ -84,6 +84,17 @@ fn advice_on_fault(fault: Fault, at: At, hint: Hint) -> &'static str {
             "run the analysis again, or read the analyser's own output to see what failed"
         }
         Fault::NoHit => COPY,
+        Fault::NoChange => {
+            "check that git diff succeeded, with set -o pipefail and the history fetched \
+             (fetch-depth: 0); a change without files needs no gate"
+        }
+        Fault::Combined => "compare two commits: git diff A B",
+        Fault::BadHunk => {
+            "pass the diff as git diff writes it, whole and without colours; --word-diff writes \
+             no lines"
+        }
+        Fault::BadHeader => "pass the diff as git diff writes it, with the names of its files",
+        Fault::Submodule => "pass --submodule=diff to git diff, or --ignore-submodules",
     }
 }
 

@@ -7,7 +7,8 @@ ghost use Rattle.sarif_log.specs.Log.{log_with};
 ghost use Rattle.sarif_log.specs.Internal.Side.{IsSide, texts_of_left, texts_of_runs};
 ghost use Rattle.sarif_log.specs.Beside.{IsMadeBy, IsToldBy};
 ghost use Rattle.sarif_counts.specs.Counts.{count_at};
-ghost use Rattle.sarif_counts.specs.Gate.{gate_of};
+ghost use Rattle.sarif_scope.specs.Told.{facts_by, gate_told};
+ghost use Rattle.sarif_scope.specs.declared.gated.GatedChange.{GatedChange};
 ghost use Rattle.sarif_log.specs.Counted.{IsLogWith};
 ghost use Rattle.sarif_log.specs.Copies.{naming};
 ghost use Rattle.sarif_log.specs.Internal.Copied.{baseline_marks, counted_if, current_marks, places_by};
@@ -23,9 +24,10 @@ use crate::merged::Merged;
 use crate::merged_text::{Side, log_text};
 use crate::places::list_places;
 use crate::prepared::Prepared;
-use sarif_counts::{Counts, gate_value, verdict};
+use sarif_counts::Counts;
 use sarif_model::Text;
 use sarif_options::{Options, Policy};
+use sarif_scope::{gate_value_told, verdict_told};
 use serde_json::Value;
 use std::alloc::{AllocError, Global};
 use std::thread;
@@ -64,17 +66,18 @@ fn text_beside<R: Threads + Sync, T: Drop, Say: FnOnce() -> T>(
 fn named_gate(
     alloc: Global,
     counts: &Counts,
+    prepared: &Prepared,
     policy: &Policy,
-    without: u32,
-    unused: u32,
     places: &Option<Vec<CopyPlace>>,
 ) -> Result<Value, AllocError>
     ensures value { IfOk result (λ v. view v
         ≡ naming (option_map (λ list. list.items) places.now)
-        (gate_of (count_at counts.now) policy.now without unused)) }
+        (gate_told prepared.now.change (count_at counts.now) policy.now
+        prepared.now.without prepared.now.unused)) }
     ensures whole { IfOk result (λ v. has_float (view v) ≡ false) }
 {
-    let gate = gate_value(alloc, counts, policy, without, unused)?;
+    let (without, unused) = (prepared.without, prepared.unused);
+    let gate = gate_value_told(alloc, counts, policy, without, unused, &prepared.change)?;
     name_if(alloc, gate, places)
 }
 
@@ -111,7 +114,8 @@ fn weigh<R: Threads + Sync>(
         (counted_if (baseline_marks prepared.now.copies) prepared.now.baseline.states.items) s l b) }
     ensures gate { IfOk result (λ made. view made.gate
         ≡ naming (places_by prepared.now.copies prepared.now.current prepared.now.baseline)
-        (gate_of (count_at made.counts) options.now.policy prepared.now.without prepared.now.unused)) }
+        (gate_told prepared.now.change (count_at made.counts) options.now.policy
+        prepared.now.without prepared.now.unused)) }
     ensures whole { IfOk result (λ made. has_float (view made.gate) ≡ false) }
     ensures copies { IfOk result (λ made. made.copies ≡ option_map length
         (places_by prepared.now.copies prepared.now.current prepared.now.baseline)) }
@@ -119,14 +123,12 @@ fn weigh<R: Threads + Sync>(
     let Prepared {
         current,
         baseline,
-        without,
-        unused,
         copies,
         ..
     } = prepared;
     let counts = count_sides(rt, alloc, current, baseline, copies, options.workers)?;
     let places = list_places(alloc, current, baseline, copies)?;
-    let gate = named_gate(alloc, &counts, &options.policy, *without, *unused, &places)?;
+    let gate = named_gate(alloc, &counts, prepared, &options.policy, &places)?;
     let copies = count_places(&places);
     Ok(Weighed {
         counts,
@@ -149,11 +151,12 @@ pub(crate) fn write_log<
     tell: Tell,
 ) -> Result<(Merged, B), AllocError>
     requires tells { Tell.IsAlwaysCallable tell }
-    ensures log { IfOk result (λ made. (runs counted : List Data)
+    ensures log { IfOk result (λ made. (runs counted : List Data) (change : Option GatedChange)
         → AreWrittenWith prepared.copies prepared.current prepared.baseline runs counted
+        → prepared.change ≡ facts_by change options.now.policy counted
         → IsLogWith runs counted
         (places_by prepared.copies prepared.current prepared.baseline)
-        options.now.policy prepared.without prepared.unused made.0) }
+        change options.now.policy prepared.without prepared.unused made.0) }
     ensures expired { IfOk result (λ made. made.0.expired ≡ prepared.expired) }
     ensures findings { IfOk result (λ made. made.0.findings.items ≡ prepared.findings.items) }
     ensures life { IfOk result (λ made. made.0.life ≡ prepared.life) }
@@ -164,7 +167,7 @@ pub(crate) fn write_log<
         gate,
         copies,
     } = weigh(rt, alloc, &prepared, options)?;
-    let verdict = verdict(&counts, &options.policy);
+    let verdict = verdict_told(&counts, &options.policy, &prepared.change);
     let Prepared {
         current,
         baseline,
@@ -172,6 +175,7 @@ pub(crate) fn write_log<
         unused,
         expired,
         findings,
+        change,
         life,
         spent,
         ..
@@ -182,6 +186,7 @@ pub(crate) fn write_log<
         unused,
         expired,
         findings: &findings,
+        change,
         copies,
         life: &life,
     };
@@ -197,6 +202,7 @@ pub(crate) fn write_log<
         log: Text::from_string(text?)?,
         counts,
         verdict,
+        change,
         without,
         unused,
         expired,

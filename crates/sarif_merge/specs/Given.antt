@@ -13,6 +13,7 @@ inputs_with contents today checks =
       logs = contents.logs;
       baselines = contents.baselines;
       suppressions = contents.suppressions;
+      diff = contents.diff;
       today = today;
       checks = checks;
     }

@@ -9,11 +9,11 @@ ghost use Rattle.sarif_inputs.specs.Faults.{faults_of, first_fault};
 ghost use Rattle.sarif_merge.specs.Given.{inputs_of};
 ghost use Rattle.sarif_merge.specs.Life.{IsLifeOf, IsRefusal, no_life};
 ghost use Rattle.sarif_merge.specs.Merged.{HoldsFirst, IsMerged};
-ghost use Rattle.sarif_merge.specs.MergedLog.{copies_in_log, expired_in, inputs_in_log, output_text, runs_counted, unused_counted, without_of};
-ghost use Rattle.sarif_merge.specs.Internal.Steps.{AreBaselinesOpened, AreLogsOpened, IsFileIn, IsReady, IsRejection};
+ghost use Rattle.sarif_merge.specs.MergedLog.{change_given, copies_in_log, expired_in, inputs_in_log, output_text, runs_counted, unused_counted, without_of};
+ghost use Rattle.sarif_merge.specs.Internal.Steps.{AreBaselinesOpened, AreLogsOpened, IsChangeIn, IsFileIn, IsReady, IsRejection};
 ghost use Rattle.sarif_model.specs.Limits.{most_sources};
 
-use crate::steps::Merging;
+use crate::steps::{FilesRead, Merging};
 use json::Scratch;
 use sarif_gather::Gate;
 use sarif_inputs::{Runs, check_numbers};
@@ -22,7 +22,6 @@ use sarif_model::MergeFault;
 use sarif_options::Options;
 use sarif_prepare::Asked;
 use sarif_streams::SourceBytes;
-use sarif_suppress::Suppressions;
 use std::alloc::{AllocError, Global};
 use std::sync::Wait;
 use std::thread::Threads;
@@ -34,23 +33,24 @@ fn judge_few<G: Gate + Sync, R: Threads + Wait + Sync>(
     alloc: Global,
     merging: &Merging<'_, '_>,
     runs: Runs<'_, '_>,
-    file: &Suppressions,
+    files: &FilesRead<'_>,
     observer: &G,
 ) -> Result<Prepared, MergeFault>
     requires logs { AreLogsOpened merging.now runs.current.items }
     requires baselines { AreBaselinesOpened merging.now runs.baseline.items }
-    requires file { IsFileIn merging.now file.now }
+    requires file { IsFileIn merging.now files.now.file.now }
+    requires change { IsChangeIn merging.now files.now.change.now }
     ensures prepared { IfOk result (IsReady merging.now) }
     ensures refused { IfErr result (IsRejection merging.now) }
 {
     let Runs { current, baseline } = runs;
-    let logs = merging.judge_logs(rt, alloc, current, file, observer)?;
-    let baselines = merging.judge_baselines(rt, alloc, baseline, file, observer)?;
-    merging.prepare(rt, alloc, logs, baselines, file)
+    let logs = merging.judge_logs(rt, alloc, current, files, observer)?;
+    let baselines = merging.judge_baselines(rt, alloc, baseline, files, observer)?;
+    merging.prepare(rt, alloc, logs, baselines, files)
 }
 
-/// Everything that is written for a merge: steps 1 to 3, and then those on what they found. The indexes and the
-/// suppression file are released at its end.
+/// Everything that is written for a merge: steps 1 to 3, and then those on what they found. The indexes, the
+/// suppression file and the change are released at its end.
 fn prepare_few<G: Gate + Sync, R: Threads + Wait + Sync>(
     rt: &R,
     alloc: Global,
@@ -68,7 +68,12 @@ fn prepare_few<G: Gate + Sync, R: Threads + Wait + Sync>(
     let indexes = (&*merging).index(rt, alloc, scratches)?;
     let runs = merging.open(rt, alloc, &indexes)?;
     let file = merging.read_file(alloc)?;
-    judge_few(rt, alloc, merging, runs, &file, observer)
+    let change = merging.read_diff(alloc, &file)?;
+    let files = FilesRead {
+        file: &file,
+        change: &change,
+    };
+    judge_few(rt, alloc, merging, runs, &files, observer)
 }
 
 /// Merges at most `MOST_SOURCES` logs and as many baselines. Returns the merge and what `tell` computed from it.
@@ -135,10 +140,11 @@ pub fn merge_bytes<G: Gate + Sync, R: Threads + Wait + Sync>(
     // After these come exactly the unmatched results of the baselines, as absent, and nothing after the log.
     ensures log { IfOk result (λ merged. merged.log
         ≡ output_text (inputs_of sources.now options.now) options.now.policy) }
-    // Counts, verdict and numbers are those of the results that are written and counted.
+    // Counts, verdict and numbers are those of the results that are written and counted; with a diff, the verdict is that
+    // of those inside its change.
     ensures gate { let inputs = inputs_of sources.now options.now in
-        IfOk result (HasGate (runs_counted inputs) options.now.policy (without_of inputs)
-        (unused_counted inputs)) }
+        IfOk result (HasGate (runs_counted inputs) (change_given inputs) options.now.policy
+        (without_of inputs) (unused_counted inputs)) }
     // The number of unused entries that are expired is counted.
     ensures expired { IfOk result
         (λ merged. merged.expired ≡ expired_in (inputs_of sources.now options.now)) }

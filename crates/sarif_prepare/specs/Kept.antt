@@ -18,6 +18,7 @@ use Rattle.sarif_upkeep.specs.Life.{life_faults, life_of}
 use Rattle.sarif_upkeep.specs.Merge.{Merge}
 use Rattle.sarif_upkeep.specs.ReadBack.{IsReadAgain}
 use Rattle.sarif_prepare.specs.declared.file_read.FileRead.{FileRead}
+use Rattle.sarif_scope.specs.declared.gated.GatedChange.{GatedChange}
 use Rattle.sarif_log.specs.LogBy.{limited_records, partner_in, states_of, taken_of}
 
 -- what matching by a version says about each of these current results; the first has number n
@@ -54,6 +55,10 @@ merge_of version file bytes policy current baseline = record {
 
 abbrev pub bytes_of : FileRead → Option (List ℕ)
 bytes_of rules = option_map (λ bytes. bytes.now) rules.bytes
+
+-- the change that the gate looks at, if there is one
+abbrev pub change_in : FileRead → Option GatedChange
+change_in rules = option_map (λ change. change.now) rules.change
 
 -- what is for later merges has no errors, and is the defined one; each file of it is read as it is defined
 pub record IsKept (m : Merge) (upkeep : Option Upkeep) (life : Life) : Type 0 where

@@ -75,12 +75,19 @@ fn split_sides<'t, 'a, R: Threads + Sync>(
     })
 }
 
+/// What is reported, what the gate says about a change, and what is for later merges.
+#[derive(Drop)]
+struct Reported {
+    findings: Vec<Finding>,
+    change: Option<ChangeFacts>,
+    life: Life,
+}
+
 /// What is written of both sides, with what is reported and what is for later merges.
 fn put_together(
     logs: CurrentWoven,
     baselines: LeftWoven,
-    findings: Vec<Finding>,
-    life: Life,
+    reported: Reported,
 ) -> Prepared
     requires { AreWoven logs baselines }
     ensures current { result.current ≡ logs.side.side }
@@ -89,9 +96,15 @@ fn put_together(
     ensures without { result.without ≡ logs.side.without }
     ensures unused { result.unused ≡ logs.side.unused }
     ensures expired { result.expired ≡ logs.side.expired }
-    ensures findings { result.findings ≡ findings }
-    ensures life { result.life ≡ life }
+    ensures findings { result.findings ≡ reported.findings }
+    ensures change { result.change ≡ reported.change }
+    ensures life { result.life ≡ reported.life }
 {
+    let Reported {
+        findings,
+        change,
+        life,
+    } = reported;
     let CurrentWoven { side, copies } = logs;
     let LeftWoven {
         left,
@@ -111,6 +124,7 @@ fn put_together(
         unused,
         expired,
         findings,
+        change,
         life,
         copies: Some(CopyFlags {
             current: copies,
@@ -137,7 +151,7 @@ fn prepare_split<R: Threads + Sync>(
     ensures prepared { IfOk result (λ prepared. (now before : List Placed)
         → AreApart rules.now.file.now now before split.entry
         → IsPreparedOnce asked.now.options.now.checks.matching rules.now.file.now now before
-        (reporting_in asked.now) prepared) }
+        (change_in rules.now) asked.now.options.now.policy (reporting_in asked.now) prepared) }
     ensures expired { IfOk result
         (λ prepared. (rs : List Record) → prepared.expired ≡ expired_of rules.now.file.now rs) }
     ensures kept { (now before : List Placed)
@@ -159,7 +173,11 @@ fn prepare_split<R: Threads + Sync>(
         baseline_copies,
     } = split;
     let sides = pair_sides(rt, alloc, current, changes, baselines, asked.options)?;
-    let ToldSides { findings, life } = tell_sides(rt, alloc, &sides.lend(), rules, asked)?;
+    let states = &sides.paired.states;
+    let narrowed = narrow_if(rt, alloc, rules.change, &sides.current, states, asked.options)?;
+    let change = facts_of(rules.change, &narrowed);
+    let lent = sides.lend(&narrowed);
+    let ToldSides { findings, life } = tell_sides(rt, alloc, &lent, rules, asked)?;
     let PairedSides {
         current,
         baselines,
@@ -173,7 +191,7 @@ fn prepare_split<R: Threads + Sync>(
     } = paired;
     let there = weave_baselines(alloc, baselines, baseline_copies, &taken, left)?;
     let here = weave_logs(alloc, current, current_copies, &states, rules.file)?;
-    Ok(put_together(here, there, findings, life))
+    Ok(put_together(here, there, Reported { findings, change, life }))
 }
 
 /// Returns what [`prepare`](crate::prepare) returns, if copies aren't counted. A copy is a result of logs, or of
@@ -192,8 +210,8 @@ pub fn prepare_once<R: Threads + Sync>(
     requires current { IsJudged rules.now.file.now false current }
     requires baseline { IsJudged rules.now.file.now true baseline }
     ensures prepared { IfOk result (IsPreparedOnce asked.now.options.now.checks.matching
-        rules.now.file.now (placed_in current.entry)
-        (placed_in baseline.entry) (reporting_in asked.now)) }
+        rules.now.file.now (placed_in current.entry) (placed_in baseline.entry)
+        (change_in rules.now) asked.now.options.now.policy (reporting_in asked.now)) }
     ensures expired { IfOk result
         (λ prepared. (rs : List Record) → prepared.expired ≡ expired_of rules.now.file.now rs) }
     ensures kept { IfOk result

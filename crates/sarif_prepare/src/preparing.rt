@@ -1,5 +1,5 @@
 //! What is made of the results of logs and of baselines once they are matched.
-ghost use Rattle.std.specs.Prelude.{◌≡◌, ◌≤◌, false, true, not, is_some, count_by, length, map, List, IfOk, IfErr};
+ghost use Rattle.std.specs.Prelude.{◌≡◌, ◌≤◌, false, true, not, is_some, count_by, length, map, option_map, Option, List, IfOk, IfErr};
 ghost use Rattle.std.specs.List.{AllByRecursion};
 ghost use Rattle.serde_json.specs.Data.{Data};
 ghost use Rattle.sarif_model.specs.declared.record.Record.{Record};
@@ -15,11 +15,13 @@ ghost use Rattle.sarif_log.specs.Internal.Prepared.{IsPrepared};
 ghost use Rattle.sarif_results.specs.Internal.Judged.{placed_in, IsJudged};
 ghost use Rattle.sarif_upkeep.specs.Internal.IsMatched.{IsFileOf};
 ghost use Rattle.sarif_prepare.specs.Chosen.{chosen_merge};
-ghost use Rattle.sarif_prepare.specs.Kept.{bytes_of, IsKept, IsUnkept};
+ghost use Rattle.sarif_prepare.specs.Kept.{bytes_of, change_in, IsKept, IsUnkept};
+ghost use Rattle.sarif_prepare.specs.Internal.Outside.{AreNarrowed};
+ghost use Rattle.sarif_scope.specs.declared.gated.GatedChange.{GatedChange};
 ghost use Rattle.sarif_prepare.specs.Asked.{choice_in, reporting_in, upkeep_in};
 ghost use Rattle.sarif_prepare.specs.Internal.Keeping.{AreOfRuns};
 ghost use Rattle.sarif_prepare.specs.Internal.Together.{AreTogether, IsPaired};
-ghost use Rattle.sarif_log.specs.Told.{told_of};
+ghost use Rattle.sarif_log.specs.Told.{told_by};
 ghost use Rattle.sarif_model.specs.Limits.{most_runs};
 
 use crate::asked::Asked;
@@ -28,6 +30,7 @@ use crate::file_read::FileRead;
 use crate::halves::{Half, current_half};
 use crate::keeping::keep_if_asked;
 use crate::left::left_side;
+use crate::outside::{facts_of, narrow_if};
 use crate::limiting::changes_of_all;
 use crate::pairing::{Paired, PairedSides, Sides, pair_sides};
 use crate::parts_of_runs::current_parts;
@@ -57,7 +60,7 @@ pub(crate) struct CurrentSide {
     pub(crate) records: Vec<Record>,
 }
 
-/// The findings of the written results, if they are requested.
+/// The findings of the written results, if they are requested; with a change, of those inside.
 pub(crate) fn tell_results<R: Threads + Sync>(
     rt: &R,
     alloc: Global,
@@ -73,11 +76,17 @@ pub(crate) fn tell_results<R: Threads + Sync>(
     ensures { IfOk result (λ findings. (file : File) (current_runs baseline_runs : List Placed)
         → AreTogether file current_runs baseline_runs
         sides.now.current.now sides.now.baselines.now
+        → (change : Option GatedChange) → AreNarrowed change asked.now.options.now.policy
+        sides.now.current.now sides.now.paired.now.states.items
+        (option_map (λ n. n.now) sides.now.narrowed)
         → findings.items
-        ≡ told_of (reporting_in asked.now)
+        ≡ told_by change (reporting_in asked.now)
         (runs_by asked.now.options.now.checks.matching file current_runs baseline_runs)) }
 {
     let paired = sides.paired;
+    if let Some(narrowed) = sides.narrowed {
+        return tell_current(rt, alloc, asked, sides.current, &narrowed.states);
+    }
     let mut findings = tell_current(rt, alloc, asked, sides.current, &paired.states)?;
     let left = &paired.left;
     let mut absent = tell_left(rt, alloc, asked, sides.baselines, &paired.taken, left)?;
@@ -154,8 +163,11 @@ pub(crate) fn tell_sides<R: Threads + Sync>(
     ensures findings { IfOk result (λ told. (file : File) (current_runs baseline_runs : List Placed)
         → AreTogether file current_runs baseline_runs
         sides.now.current.now sides.now.baselines.now
+        → (change : Option GatedChange) → AreNarrowed change asked.now.options.now.policy
+        sides.now.current.now sides.now.paired.now.states.items
+        (option_map (λ n. n.now) sides.now.narrowed)
         → told.findings.items
-        ≡ told_of (reporting_in asked.now)
+        ≡ told_by change (reporting_in asked.now)
         (runs_by asked.now.options.now.checks.matching file current_runs baseline_runs)) }
     ensures kept { (current_runs baseline_runs : List Placed)
         → AreOfRuns rules.now sides.now current_runs baseline_runs
@@ -192,7 +204,8 @@ fn prepare_sides<R: Threads + Sync>(
         → AreTogether rules.now.file.now current_runs baseline_runs
         sides.entry.current sides.entry.baselines
         → IsPrepared asked.now.options.now.checks.matching rules.now.file.now
-        current_runs baseline_runs (reporting_in asked.now) prepared) }
+        current_runs baseline_runs (change_in rules.now) asked.now.options.now.policy
+        (reporting_in asked.now) prepared) }
     ensures kept { (current_runs baseline_runs : List Placed)
         → AreTogether rules.now.file.now current_runs baseline_runs
         sides.entry.current sides.entry.baselines
@@ -209,7 +222,11 @@ fn prepare_sides<R: Threads + Sync>(
         asked.now.options.now.policy (choice_in asked.now) current_runs baseline_runs)
         (upkeep_in asked.now)) }
 {
-    let ToldSides { findings, life } = tell_sides(rt, alloc, &sides.lend(), rules, asked)?;
+    let states = &sides.paired.states;
+    let narrowed = narrow_if(rt, alloc, rules.change, &sides.current, states, asked.options)?;
+    let change = facts_of(rules.change, &narrowed);
+    let lent = sides.lend(&narrowed);
+    let ToldSides { findings, life } = tell_sides(rt, alloc, &lent, rules, asked)?;
     let PairedSides {
         current,
         baselines,
@@ -240,6 +257,7 @@ fn prepare_sides<R: Threads + Sync>(
         unused,
         expired,
         findings,
+        change,
         life,
         copies: None,
         spent,
@@ -266,8 +284,8 @@ pub fn prepare<R: Threads + Sync>(
     requires current { IsJudged rules.now.file.now false current }
     requires baseline { IsJudged rules.now.file.now true baseline }
     ensures prepared { IfOk result (IsPrepared asked.now.options.now.checks.matching
-        rules.now.file.now (placed_in current.entry)
-        (placed_in baseline.entry) (reporting_in asked.now)) }
+        rules.now.file.now (placed_in current.entry) (placed_in baseline.entry)
+        (change_in rules.now) asked.now.options.now.policy (reporting_in asked.now)) }
     ensures kept { IfOk result
         (λ prepared. IsKept (chosen_merge asked.now.options.now.checks.matching
         rules.now.file.now (bytes_of rules.now)

@@ -39,6 +39,11 @@ fault_name fault.EmptyMatch = codes "EmptyMatch"
 fault_name fault.NeedsToday = codes "NeedsToday"
 fault_name fault.NotSuccessful = codes "NotSuccessful"
 fault_name fault.NoHit = codes "NoHit"
+fault_name fault.NoChange = codes "NoChange"
+fault_name fault.Combined = codes "Combined"
+fault_name fault.BadHunk = codes "BadHunk"
+fault_name fault.BadHeader = codes "BadHeader"
+fault_name fault.Submodule = codes "Submodule"
 
 -- the name of a cause
 abbrev pub cause_name : Cause → List ℕ

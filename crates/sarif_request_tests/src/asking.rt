@@ -1,4 +1,5 @@
 //! What arguments request.
+use sarif_change::Scope;
 use sarif_evidence::MatchingVersion;
 use sarif_findings::Show;
 use sarif_model::{Level, Text};
@@ -208,6 +209,21 @@ fn whether_copies_are_counted_is_read(rt: HostRuntime) -> Result<(), Fail> {
     for (line, once) in [("a --out o", false), ("a --once --out o", true)] {
         let request = accepted(&rt, line)?;
         assert_eq!(rt; request.options.checks.once, once);
+    }
+    Ok(())
+}
+
+#[test]
+fn the_diff_and_its_scope_are_read(rt: HostRuntime) -> Result<(), Fail> {
+    for (line, diff, scope) in [
+        ("a --out o", None, Scope::Lines),
+        ("a --out o --diff -", Some("-"), Scope::Lines),
+        ("a --out o --diff d --diff-scope lines", Some("d"), Scope::Lines),
+        ("a --out - --diff d --diff-scope=files", Some("d"), Scope::Files),
+    ] {
+        let request = accepted(&rt, line)?;
+        assert_eq!(rt; request.diff.as_ref().map(Text::as_str), diff);
+        assert_eq!(rt; request.options.checks.scope, scope);
     }
     Ok(())
 }

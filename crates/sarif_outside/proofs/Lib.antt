@@ -1,0 +1,2 @@
+pub mod BareArtifacts
+pub mod ListedAsked
