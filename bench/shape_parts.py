@@ -30,6 +30,8 @@ class Input:
     is_too_long: bool = False
     # The version of matching. Without the option it is 2.
     matching: int = 2
+    # Whether all numbers are kept.
+    keeps: bool = False
 
     def files(self, folder):
         """Writes the files. Returns the arguments that merge them."""
@@ -46,6 +48,7 @@ class Input:
             words += ["--known", str(folder / "known"), "--adopt"]
         if self.matching != 2:
             words += ["--matching", str(self.matching)]
+        words += ["--keep-numbers"] * self.keeps
         return [*words, *(put(folder / f"log{n}", text) for n, text in enumerate(self.logs))]
 
     def statuses(self):

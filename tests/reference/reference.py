@@ -12,7 +12,7 @@ import sys
 
 from reference_arguments import NoArguments, Unread, replaced
 from reference_entries import read_rules
-from reference_json import Fault, compact, read_json, stripped
+from reference_json import Fault, compact, is_fractional, read_json, stripped
 from reference_life import Choice, Known, PastLimit, Renewed, failed, file_of, happened, unused
 from reference_matching import fields, has_evidence, partners, region_and_snippet, state
 from reference_members import KINDS, LEVELS, STATES, STATUSES, guid, index, objects, of_kind, one_of, texts
@@ -35,8 +35,9 @@ class Refused(Exception):
 
 
 def read_log(source, allow_external=False):
-    """The stripped runs of a log."""
-    log = stripped(read_json(source))
+    """The stripped runs of a log, and the same runs with all their numbers."""
+    whole = read_json(source)
+    log = stripped(whole)
     if not isinstance(log, dict) or not isinstance(log.get("runs", 0), (list, type(None))):
         raise Fault("NotLog")
     if log.get("version") != "2.1.0":
@@ -53,7 +54,7 @@ def read_log(source, allow_external=False):
         total += len(run.get("results") or [])
         if total > MOST_RESULTS:
             raise Fault("TooMany", run=number)
-    return runs
+    return runs, (whole["runs"] if runs else [])
 
 
 # What is read of a run, of what an external property file may hold.
@@ -256,10 +257,10 @@ class Checks:
 
 
 class Finding:
-    """A result with its place in the inputs, and with what the merge adds."""
+    """A result with its place in the inputs, and with what the merge adds. `whole` is the result with all its numbers."""
 
-    def __init__(self, run, value, record):
-        self.run, self.value, self.record = run, value, record
+    def __init__(self, run, value, record, whole):
+        self.run, self.value, self.record, self.whole = run, value, record, whole
         self.state, self.list, self.statuses = "absent", own_of(value), list(record.held)
         self.first, self.matched = self, []
 
@@ -274,6 +275,14 @@ class Finding:
     def annotated(self):
         marks = {"level": self.record.level, "baselineState": self.state, "suppressions": self.list}
         return {**self.value, **marks}
+
+    def kept(self):
+        """The result as it is written with all its numbers: its own suppressions come first."""
+        own = self.whole.get("suppressions")
+        own = own if isinstance(own, list) and not is_fractional(own) else []
+        added = self.list[len(own_of(self.value)) :]
+        marks = {"level": self.record.level, "baselineState": self.state, "suppressions": own + added}
+        return {**self.whole, **marks}
 
 
 def findings_of(results):
@@ -297,10 +306,10 @@ def same(one, other):
 class Merge:
     """A merge of sources, which are byte strings."""
 
-    def __init__(self, logs, baselines, suppress=None, policy=None, today=None, checks=None):
-        self.policy, self.checks, self.today = policy or Policy(), checks or Checks(), today
+    def __init__(self, logs, baselines, suppress=None, policy=None, today=None, checks=None, keeps=False):
+        self.policy, self.checks, self.today, self.keeps = policy or Policy(), checks or Checks(), today, keeps
         check_number(logs, baselines)
-        self.runs, self.results = 0, 0
+        self.runs, self.results, self.wholes = 0, 0, {}
         logs = [self.read(f"log {number}", source) for number, source in enumerate(logs)]
         baselines = [
             self.read(f"baseline {number}", source) for number, source in enumerate(baselines)
@@ -318,7 +327,7 @@ class Merge:
 
     def read(self, name, source):
         try:
-            runs = read_log(source, self.checks.allow_external)
+            runs, wholes = read_log(source, self.checks.allow_external)
         except Fault as fault:
             raise Refused(
                 name if fault.run is None else f"{name}, run {fault.run}", fault.cause
@@ -327,6 +336,7 @@ class Merge:
         self.results += sum(len(run.get("results") or []) for run in runs)
         if self.runs > MOST_RUNS or self.results > MOST_RESULTS:
             raise Refused(name, "TooMany")
+        self.wholes.update({id(run): whole for run, whole in zip(runs, wholes)})
         return runs
 
     def read_entries(self, source, today):
@@ -352,7 +362,8 @@ class Merge:
             for number, value in enumerate(run.get("results") or []):
                 at = f"{place}, result {number}"
                 if not is_baseline or value.get("baselineState") != "absent":
-                    found.append(Finding(run, value, self.record(at, head, value)))
+                    whole = self.wholes[id(run)]["results"][number]
+                    found.append(Finding(run, value, self.record(at, head, value), whole))
         except Fault as fault:
             raise Refused(place, fault.cause) from None
         return found
@@ -429,8 +440,9 @@ class Merge:
         return [*self.current, *self.absent]
 
     def written(self, run, findings):
-        kept = {name: it for name, it in run.items() if name not in ("baselineGuid", "results")}
-        results = [finding.annotated() for finding in findings if finding.run is run]
+        members = self.wholes[id(run)] if self.keeps else run
+        kept = {name: it for name, it in members.items() if name not in ("baselineGuid", "results")}
+        results = [it.kept() if self.keeps else it.annotated() for it in findings if it.run is run]
         return kept if run.get("results") is None else {**kept, "results": results}
 
     def text(self):
@@ -478,7 +490,7 @@ USAGE = """Usage: sarif_gate [--baseline F]... [--suppress F] [--today N] [--wor
     [--reason TEXT] [--until N] [--at PLACE]... [--rule ID]... [--root PREFIX]...
     [--unused F] [--known F] [--adopt] [--require-success]
     [--allow-external-properties] [--matching N] [--ignore-fingerprint NAME]... [--once]
-    [--explain] --out F LOG... [@FILE]...
+    [--keep-numbers] [--explain] --out F LOG... [@FILE]...
 """
 
 
@@ -492,7 +504,9 @@ class Usage(Exception):
 
 RANGES = {"today": (10000101, 99991231), "workers": (1, 64), "max": (0, 2**32 - 1), "matching": (2, 3)}
 VALUES = ("suppress", "out", "fail-on", "states", "suppress-out", "reason", "until", "unused", "known")
-FLAGS = ("accept", "prune", "adopt", "explain", "require-success", "allow-external-properties", "once")
+FLAGS = (
+    "accept", "prune", "adopt", "explain", "require-success", "allow-external-properties", "once", "keep-numbers",
+)
 # Only their names count here: reference_reports.py makes the reports.
 REPORTS = ("text", "github", "markdown", "gitlab", "html", "junit", "azure")
 
@@ -524,6 +538,7 @@ class Request:
         self.policy = Policy(self.given.get("fail-on", "error"), self.given.get("max", 0), states)
         flags = [name in self.given for name in ("require-success", "allow-external-properties")]
         self.checks = Checks(*flags, self.given.get("matching", 2), self.ignored, "once" in self.given)
+        self.keeps = "keep-numbers" in self.given
 
     def option(self, word, words):
         name, equals, value = word.removeprefix("--").partition("=")
@@ -645,7 +660,7 @@ def asked(request):
         read_file(f"baseline {number}", name) for number, name in enumerate(request.baselines)
     ]
     suppress = None if request.suppress is None else read_file("suppressions", request.suppress)
-    return Merge(logs, baselines, suppress, request.policy, request.today, request.checks)
+    return Merge(logs, baselines, suppress, request.policy, request.today, request.checks, request.keeps)
 
 
 def write_file(name, text, place="output"):

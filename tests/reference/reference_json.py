@@ -15,10 +15,10 @@ class Fault(Exception):
 
 
 class Fraction:
-    """A number that isn't kept as an integer."""
+    """A number that isn't kept as an integer, with its text."""
 
     def __init__(self, text):
-        self.number = float(text)
+        self.text, self.number = text, float(text)
 
     def __eq__(self, other):
         return isinstance(other, Fraction) and self.number == other.number
@@ -184,7 +184,7 @@ def compact(value):
         return "{" + ",".join(f"{quoted(name)}:{compact(value[name])}" for name in names) + "}"
     if value is None or isinstance(value, bool):
         return {None: "null", True: "true", False: "false"}[value]
-    return str(value)
+    return value.text if isinstance(value, Fraction) else str(value)
 
 
 def is_fractional(value):

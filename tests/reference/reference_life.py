@@ -154,7 +154,7 @@ class Renewed:
                 added.append(entry)
         self.accepted, self.pruned, self.alike = len(chosen), sum(goes), None
         self.entries = len(kept) + len(added)
-        others = stripped(merge.file)
+        others = merge.file if merge.keeps else stripped(merge.file)
         is_fifth = merge.file.get("version") == 5 or any("snippet" in entry for entry in added)
         self.text = pretty({**others, "suppressions": kept + added, "version": 5 if is_fifth else 4}) + "\n"
         if self.entries > MOST_ENTRIES:

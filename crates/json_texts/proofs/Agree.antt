@@ -20,9 +20,9 @@ use Rattle.json_texts.specs.Whole.{whole, whole_items, whole_members, is_fractio
 use Rattle.json_texts.proofs.Integers.{integer_text}
 
 -- one is fractional if the other is, and if not, stripping leaves the same
-record IsAlike (j : Json) (d : Data) : Type 0 where
-  fractional : is_fractional j ≡ values.is_fractional d
-  left : values.is_fractional d ≡ false → stripped j ≡ outline (values.stripped d)
+pub record IsAlike (j : Json) (d : Data) : Type 0 where
+  pub fractional : is_fractional j ≡ values.is_fractional d
+  pub left : values.is_fractional d ≡ false → stripped j ≡ outline (values.stripped d)
 
 record AreItemsAlike (js : json.Items) (ds : Items) : Type 0 where
   fractional : any_fractional js ≡ values.any_fractional ds
@@ -85,7 +85,7 @@ more_alike j d js ds x rest = record {
 }
 
 mutual
-  alike : (j : Json) (d : Data) → HasNumbers j → of_json j ≡ Some d → IsAlike (whole j) d
+  pub alike : (j : Json) (d : Data) → HasNumbers j → of_json j ≡ Some d → IsAlike (whole j) d
   alike json.null d h e = subst (IsAlike json.null) (Some_inj _ _ e) (plain_alike json.null null refl refl refl)
   alike (json.boolean b) d h e = subst (IsAlike (json.boolean b)) (Some_inj _ _ e) (plain_alike (json.boolean b) (boolean b) refl refl refl)
   alike (json.number s) d h e = let n = mapped_some number (number_of s) d e in subst (IsAlike (json.number s)) n.2 (number_alike s n.0 h n.1)

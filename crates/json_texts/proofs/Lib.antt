@@ -1,8 +1,12 @@
 pub mod Again
 pub mod Agree
+pub mod Getting
 pub mod Integers
+pub mod Leaving
 pub mod Orders
 pub mod Parts
+pub mod Printing
+pub mod Rising
 pub mod Standing
 pub mod Surrounding
 pub mod Tokens

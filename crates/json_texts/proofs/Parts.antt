@@ -167,7 +167,7 @@ abbrev step : Bool → Token → Bool
 step = λ _ t. ends t
 
 mutual
-  ended : (c : Bool) (j : Json) → fold step c (json_tokens j) ≡ true
+  pub ended : (c : Bool) (j : Json) → fold step c (json_tokens j) ≡ true
   ended c null = refl
   ended c (boolean b) = refl
   ended c (number s) = refl

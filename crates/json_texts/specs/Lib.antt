@@ -1,4 +1,5 @@
 pub mod Around
 pub mod Internal
 pub mod Laws
+pub mod Others
 pub mod Whole

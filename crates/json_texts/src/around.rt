@@ -11,11 +11,13 @@ ghost use Rattle.json_parts.specs.Stripping.{stripped};
 ghost use Rattle.json_parts.specs.Internal.Around.{surrounding, name_text};
 ghost use Rattle.json_texts.specs.Whole.{written, is_fractional as fractional};
 ghost use Rattle.json_texts.specs.Around.{around, named, members_of, set_texts, set_values, put_text, texts_later};
-ghost use Rattle.json_texts.specs.Internal.Walking.{IsWritable, written_members};
+ghost use Rattle.json_texts.specs.Others.{without_all};
+ghost use Rattle.json_texts.specs.Internal.Walking.{IsWritable, AreWritable, members_at, written_members};
 ghost use Rattle.json_texts.specs.Internal.Parts as parts;
 ghost use Rattle.json_texts.specs.Internal.Parts.{IsPart, AreParts, named_at, part_text, parts_text, closed};
 
 use crate::fraction::is_fractional;
+use crate::others::other_members;
 use crate::sorting::{Member, sorted_members};
 use crate::writing::{ROOM, write_value};
 use json::Writer;
@@ -126,6 +128,24 @@ fn push_found<'t, 'a, 's>(
     Ok(())
 }
 
+/// Those of these members that are written.
+fn list_parts<'t, 'a, 's>(
+    alloc: Global,
+    members: &[Member<'t, 'a>],
+    keeps_numbers: bool,
+) -> Result<Vec<Part<'t, 'a, 's>>, AllocError>
+    requires { AreWritable members.now }
+    ensures named { IfOk result (λ list. named_at keeps_numbers list.items
+        ≡ named (written_members keeps_numbers (members_at members.now))) }
+    ensures writable { IfOk result (λ list. AreParts list.items) }
+{
+    let mut list = Vec::with_capacity(alloc, members.len())?;
+    'members: for found in members {
+        push_found(&mut list, found, keeps_numbers)?;
+    }
+    Ok(list)
+}
+
 /// The members of an object that are written; a value that is not an object has none.
 fn parts_of<'t, 'a, 's>(
     alloc: Global,
@@ -140,10 +160,7 @@ fn parts_of<'t, 'a, 's>(
     let Some(members) = sorted_members(alloc, element)? else {
         return Ok(Vec::new(alloc));
     };
-    let mut list = Vec::with_capacity(alloc, members.len())?;
-    'members: for found in members.as_slice() {
-        push_found(&mut list, found, keeps_numbers)?;
-    }
+    let list = list_parts(alloc, members.as_slice(), keeps_numbers)?;
     Ok(list)
 }
 
@@ -276,6 +293,23 @@ fn text_after(
     Ok(text)
 }
 
+/// The text of an object with these members, open at the value of its member `name`.
+fn open_at(
+    alloc: Global,
+    list: &[Part<'_, '_, '_>],
+    name: &str,
+    keeps_numbers: bool,
+) -> Result<Around, AllocError>
+    requires { AreParts list.now }
+    ensures { IfOk result (λ text. text ≡ around name.now (named_at keeps_numbers list.now)) }
+{
+    let (at, is_there) = place_of(list, name);
+    let from = if is_there { at + 1 } else { at };
+    let before = text_before(alloc, &list[..at], name, keeps_numbers)?;
+    let after = text_after(alloc, &list[from..], keeps_numbers)?;
+    Ok(Around::new(before, after))
+}
+
 /// The text of the object of a node, open at the value of its member `name`, with the members of `set` set in turn. The
 /// others are written as by `write_node`; a value that is not an object has none. Returns `AllocError` if memory runs
 /// out.
@@ -295,9 +329,26 @@ pub fn text_around(
 {
     let mut list = parts_of(alloc, &node.element(), keeps_numbers)?;
     set_parts(&mut list, set, keeps_numbers)?;
-    let (at, is_there) = place_of(list.as_slice(), name);
-    let from = if is_there { at + 1 } else { at };
-    let before = text_before(alloc, &list.as_slice()[..at], name, keeps_numbers)?;
-    let after = text_after(alloc, &list.as_slice()[from..], keeps_numbers)?;
-    Ok(Around::new(before, after))
+    let text = open_at(alloc, list.as_slice(), name, keeps_numbers)?;
+    Ok(text)
+}
+
+/// The text of the object of a node without the members of the names `left_out`, open at the value of its member `name`.
+/// The others are written as by `write_node`; a value that is not an object has none. Returns `AllocError` if memory runs
+/// out.
+pub fn text_around_others(
+    alloc: Global,
+    node: &Node<'_, '_>,
+    name: &str,
+    left_out: &[&str],
+    keeps_numbers: bool,
+) -> Result<Around, AllocError>
+    ensures { IfOk result (λ text. text ≡ around name.now (named
+        (without_all (map (λ n. n.now) left_out.now)
+        (members_of (written keeps_numbers (json_at node.now)))))) }
+{
+    let members = other_members(alloc, &node.element(), left_out)?;
+    let list = list_parts(alloc, members.as_slice(), keeps_numbers)?;
+    let text = open_at(alloc, list.as_slice(), name, keeps_numbers)?;
+    Ok(text)
 }

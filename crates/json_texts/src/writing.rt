@@ -21,7 +21,7 @@ pub(crate) const ROOM: usize = 256;
 
 /// Writes the members of an object, with its brackets.
 #[cycle(writing)]
-fn write_members(
+pub(crate) fn write_members(
     alloc: Global,
     out: &mut Writer,
     members: &[Member<'_, '_>],
@@ -96,7 +96,7 @@ pub fn write_node(
 }
 
 /// The text that was written.
-fn into_text(out: Writer) -> String
+pub(crate) fn into_text(out: Writer) -> String
     requires { out.before ≡ [] }
     ensures { string_bytes result ≡ print out.tokens }
 {

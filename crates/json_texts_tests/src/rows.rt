@@ -1,7 +1,7 @@
 //! What is written with all numbers, and what without fractions.
 use json::Scratch;
 use json_parts::index_text;
-use json_texts::{node_text, push_node};
+use json_texts::{member_text, node_text, others_text, push_node, text_around_others};
 use std::alloc::{AllocError, Global};
 use std::test::Fail;
 
@@ -104,5 +104,48 @@ fn a_text_is_added_to_another(rt: HostRuntime) -> Result<(), Fail> {
         pushed(alloc, "x,", r#"{"b":1.5,"a":[1]}"#)?.as_str(),
         r#"x,{"a":[1],"b":1.5}{"a":[1]}"#
     );
+    Ok(())
+}
+
+// A member's text, the text of an object without two members, and the text around its member `b` without them.
+fn parts(alloc: Global, text: &str, keeps_numbers: bool) -> Result<String, AllocError> {
+    let left_out = ["c", "a"];
+    let mut all = String::new(alloc);
+    let mut scratch = Scratch::new(alloc);
+    if let Ok(index) = index_text(alloc, text.as_bytes(), &mut scratch) {
+        let root = index.root();
+        match member_text(alloc, &root, "a", keeps_numbers)? {
+            Some(member) => all.push_str(member.as_str())?,
+            None => all.push_str("none")?,
+        }
+        all.push_str(" ")?;
+        all.push_str(others_text(alloc, &root, &left_out, keeps_numbers)?.as_str())?;
+        all.push_str(" ")?;
+        let around = text_around_others(alloc, &root, "b", &left_out, keeps_numbers)?;
+        around.push_filled(&mut all, "[]")?;
+    }
+    Ok(all)
+}
+
+#[test]
+fn members_are_found_or_left_out(rt: HostRuntime) -> Result<(), Fail> {
+    let alloc = rt.alloc();
+    for (text, kept, stripped) in [
+        (
+            r#"{"c":1,"b":2,"a":[1.50,{"x":0.5}],"d":0.10,"a":[{"x":1.50}]}"#,
+            r#"[{"x":1.50}] {"b":2,"d":0.10} {"b":[],"d":0.10}"#,
+            r#"[{}] {"b":2} {"b":[]}"#,
+        ),
+        (
+            r#"{"e":-0,"A":1}"#,
+            r#"none {"A":1,"e":-0} {"A":1,"b":[],"e":-0}"#,
+            r#"none {"A":1} {"A":1,"b":[]}"#,
+        ),
+        (r#"{"a":1,"c":2}"#, r#"1 {} {"b":[]}"#, r#"1 {} {"b":[]}"#),
+        ("[1.5]", r#"none {} {"b":[]}"#, r#"none {} {"b":[]}"#),
+    ] {
+        assert_eq!(rt; parts(alloc, text, true)?.as_str(), kept);
+        assert_eq!(rt; parts(alloc, text, false)?.as_str(), stripped);
+    }
     Ok(())
 }

@@ -4,6 +4,7 @@ pub mod Entry
 pub mod Heard
 pub mod Internal
 pub mod Keeping
+pub mod KeptFile
 pub mod NewFile
 pub mod Renewed
 pub mod Until

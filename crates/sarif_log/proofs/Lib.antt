@@ -1,4 +1,5 @@
 pub mod CopyNumbers
+pub mod KeptRunTexts
 pub mod Limits
 pub mod LogText
 pub mod PartsCounted

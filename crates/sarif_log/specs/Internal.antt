@@ -1,5 +1,6 @@
 -- Definitions for contracts within and between the crates, and for proofs. The merge theorem reaches none of them.
 pub mod Copied
+pub mod KeptTexts
 pub mod Prepared
 pub mod Side
 pub mod Texts

@@ -3,6 +3,8 @@ pub mod Beside
 pub mod Copies
 pub mod Counted
 pub mod Internal
+pub mod KeptLaws
+pub mod KeptRuns
 pub mod Log
 pub mod LogBy
 pub mod MergedRuns

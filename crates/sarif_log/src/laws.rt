@@ -9,6 +9,7 @@ ghost use Rattle.sarif_model.specs.declared.record.Record.{Record};
 ghost use Rattle.sarif_entries.specs.File.{File};
 ghost use Rattle.sarif_suppress.specs.Suppressing.{is_suppressed};
 ghost use Rattle.sarif_suppress.specs.Written.{suppressions_of};
+ghost use Rattle.sarif_log.specs.KeptLaws.{WritesKeptRun};
 
 use sarif_suppress::written_suppressions_say_what_is_suppressed;
 
@@ -20,3 +21,8 @@ pub fn suppressed_results_are_counted_as_suppressed()
 {
     written_suppressions_say_what_is_suppressed();
 }
+
+/// What is written for a run from its text and from the drafts of its results is the run with all its numbers.
+pub fn a_run_is_written_with_all_its_numbers()
+    ensures { WritesKeptRun }
+{}

@@ -5,6 +5,7 @@ mod assembling;
 mod copies;
 mod counting;
 mod facts;
+mod kept_run;
 mod laws;
 mod merged;
 mod merged_text;
@@ -20,7 +21,10 @@ mod written;
 pub use assembling::assemble;
 pub use copies::{CopyPlace, name_copies};
 pub use facts::Facts;
-pub use laws::suppressed_results_are_counted_as_suppressed;
+pub use kept_run::{KeptRun, keep_run};
+pub use laws::{
+    a_run_is_written_with_all_its_numbers, suppressed_results_are_counted_as_suppressed,
+};
 pub use merged::Merged;
 pub use merged_text::{Side, log_text};
 pub use prepared::{CopyFlags, Prepared, Spent};

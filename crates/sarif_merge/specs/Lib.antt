@@ -1,6 +1,7 @@
 pub mod FromReaders
 pub mod Given
 pub mod Internal
+pub mod KeptLog
 pub mod Life
 pub mod Merged
 pub mod MergedLog

@@ -2,6 +2,9 @@ pub mod AnnotatedResult
 pub mod CountedAgain
 pub mod Drafted
 pub mod JudgedCounts
+pub mod KeptDrafts
+pub mod KeptStripped
+pub mod KeptTexts
 pub mod OutcomeItems
 pub mod Places
 pub mod Removed

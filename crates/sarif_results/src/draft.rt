@@ -49,7 +49,7 @@ pub fn into_members(alloc: Global, value: Value) -> Map<String, Value>
 }
 
 /// The JSON text of a level.
-fn level_text(level: Level) -> &'static str
+pub(crate) fn level_text(level: Level) -> &'static str
     ensures { result.now ≡ compact_text (string (level_name level)) }
 {
     match level {

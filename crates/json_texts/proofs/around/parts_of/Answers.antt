@@ -1,20 +1,14 @@
-use Rattle.std.proofs.Common.{◌++◌, option_map, sym, ap, ◌∙◌, subst}
+use Rattle.std.proofs.Common.{option_map, sym, ap, ◌∙◌, subst}
 use Rattle.json_texts.specs.Whole.{written}
 use Rattle.json_texts.specs.Around.{named, members_of}
-use Rattle.json_texts.specs.Internal.Walking.{Sorts, AreWritable, members_at, written_members}
-use Rattle.json_texts.specs.Internal.Parts.{AreParts, named_at}
+use Rattle.json_texts.specs.Internal.Walking.{Sorts, members_at, written_members}
 use Rattle.json_texts.proofs.Orders.{written_object}
 use Rattle.json_texts.proofs.around.parts_of.Goals as goal
 
-pub members-init : goal.members-init
-members-init c =
+pub returns-clause-named : goal.returns-clause-named
+returns-clause-named c =
     let keeps = c.args.keeps_numbers in
     let sorts = subst (λ o. Sorts c.args.element.now (option_map (λ v. v.items) o)) c.in-Some.is c.in_ok-members.ensures in
-    let slice = c.as_slice-found-items.ensures.value in
-    let none = c.in_ok-list.ensures.items in (
-      ap (λ xs. named_at keeps xs ++ named (written_members keeps (members_at c.as_slice-found-items.result.now))) none
-          ∙ ap (λ xs. named (written_members keeps (members_at xs))) slice ∙ ap (λ ms. named (written_members keeps ms)) sorts.2
-          ∙ ap (λ j. named (members_of j)) (sym (written_object keeps sorts.0)) ∙ ap (λ j. named (members_of (written keeps j))) (sym sorts.1),
-      subst AreWritable (sym slice) sorts.3,
-      subst AreParts (sym none) tt,
-    )
+    c.in_ok-list.ensures.named ∙ ap (λ xs. named (written_members keeps (members_at xs))) c.as_slice.ensures.value
+    ∙ ap (λ ms. named (written_members keeps ms)) sorts.2 ∙ ap (λ j. named (members_of j)) (sym (written_object keeps sorts.0))
+    ∙ ap (λ j. named (members_of (written keeps j))) (sym sorts.1)

@@ -1,0 +1,6 @@
+//! Laws of a merged log with all its numbers.
+#![tactic(auto)]
+
+mod laws;
+
+pub use laws::{results_keep_their_members, runs_keep_their_members};
