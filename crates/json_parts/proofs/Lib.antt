@@ -7,6 +7,7 @@ pub mod Grown
 pub mod Keeping
 pub mod Kept
 pub mod Nodes
+pub mod OnePass
 pub mod Order
 pub mod Passing
 pub mod Readings

@@ -3,6 +3,7 @@
 #![tactic(auto)]
 
 mod around;
+mod finding;
 mod indexing;
 mod laws;
 mod making;

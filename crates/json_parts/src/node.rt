@@ -51,6 +51,13 @@ impl<'t, 'a> Node<'t, 'a> {
         self.element.again()
     }
 
+    /// This value again.
+    pub(crate) fn again(&self) -> Node<'t, 'a>
+        ensures { result ≡ self.now }
+    {
+        Node::new(self.element())
+    }
+
     /// The member of that name, where this is an object; of several the last.
     pub fn get(&self, name: &str) -> Option<Node<'t, 'a>>
         ensures { option_map data_of result ≡ get name.now (data_of self.now) }

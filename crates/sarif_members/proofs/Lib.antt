@@ -1,3 +1,3 @@
 pub mod AlikeMembers
+pub mod NodeMembers
 pub mod Pairs
-pub mod RecordMembers
