@@ -5,7 +5,7 @@ from dataclasses import replace
 
 from reference_entries import read_rules
 from reference_json import compact, quoted, read_json, stripped
-from reference_matching import telling
+from reference_matching import fields, telling
 from reference_reports import Found, Policy, reported, shown
 
 MOST_ENTRIES = 10_000
@@ -263,6 +263,9 @@ class Known:
         gone = {id(it) for it in merge.current if left_out(merge, it, adopt)}
         stay = [it for it in merge.current if id(it) not in gone]
         kept = [it for it in merge.absent if not heard(merge, tool_of(it.run))]
+        if merge.checks.once:
+            alike = {fields(it.record) for it in stay} - {None}
+            kept = [it for it in kept if fields(it.record) not in alike]
         tools = dict.fromkeys(map(tool_of, [*merge.before, *merge.inputs]))
         runs = []
         for tool in tools:

@@ -1,4 +1,4 @@
--- The record of a known result is the record that it was written from.
+-- The record of a known result is the record that it was written from, as it is read.
 use Rattle.std.proofs.Common.{◌≡◌, ◌∙◌, ◌||◌, ℕ, Bool, true, false, if◌then◌else◌, List, [], ◌∷◌, map, Option, Some, None, option_map, refl, sym}
 use Rattle.std.specs.Prelude.{is_some, Result, Ok, IfSome, slice_get}
 use Rattle.sarif_model.specs.declared.fault.Fault.{Fault}
@@ -17,7 +17,7 @@ use Rattle.sarif_runs.specs.Record.{if_placed, record_by, rule_id_of}
 use Rattle.sarif_known.specs.KnownRun.{base_alone, base_without}
 use Rattle.sarif_runs.specs.Ignoring.{without_names}
 use Rattle.sarif_runs.specs.declared.run_options.RecordOptions.{RecordOptions}
-use Rattle.sarif_known.specs.Laws.{IsReadable}
+use Rattle.sarif_known.specs.Laws.{IsReadable, as_read}
 use Rattle.sarif_known.proofs.KnownParts.{level_read, uri_read, base_read, known_parts}
 
 -- a place without a URI
@@ -78,7 +78,7 @@ placed_twice {X} place o = by_test (is_some place.uri || is_some place.base)
 
 pub record_back : (options : RecordOptions) (bases : List (List ℕ)) (n : ℕ) (r : Record) → IsReadable options r
     → HasArtifact bases n (base_alone r)
-    → record_by options.ignored (known_head bases) r.tool (known_parts r (number_for n r)) ≡ Ok r
+    → record_by options.ignored (known_head bases) r.tool (known_parts r (number_for n r)) ≡ Ok (as_read r)
 unfolding record_by
 record_back options bases n r readable there =
     rw (
@@ -106,7 +106,7 @@ record_back options bases n r readable there =
           snippet = if_placed r.place r.snippet;
           spent = [];
         }))
-        (Ok r)
+        (Ok (as_read r))
     whole_back =
         λ i. Ok
         (record {
@@ -123,5 +123,5 @@ record_back options bases n r readable there =
           held = r.held;
           region = readable.region_placed i;
           snippet = readable.snippet_placed i;
-          spent = sym readable.unspent i;
+          spent = [];
         })

@@ -29,7 +29,7 @@ use Rattle.sarif_known.specs.Chosen.{Chosen, results_among}
 use Rattle.sarif_model.specs.Written.{list_if_any}
 use Rattle.sarif_known.specs.KnownResult.{known_result}
 use Rattle.sarif_known.specs.KnownRun.{base_alone, next_number, results_from, with_some, bases_alone, artifact_at, run_rows, known_run}
-use Rattle.sarif_known.specs.Laws.{IsOfTool, AreKnownAgain}
+use Rattle.sarif_known.specs.Laws.{IsOfTool, AreKnownAgain, as_read}
 use Rattle.sarif_known.proofs.KnownPlain.{next_small, number_small}
 use Rattle.sarif_model.proofs.Elements.{items_back}
 use Rattle.sarif_known.proofs.KnownParts.{known_parts, parts_is, present_is}
@@ -153,32 +153,32 @@ count_is n (r ∷ rs) = ap suc (count_is (next_number n (base_alone r)) rs)
 
 module _ (options : RecordOptions) (run : Chosen) (p : Placed) (is_run : p.run ≡ known_run run) (alike : p.options.records ≡ options) where
   one_item : (seq n : ℕ) (r : Record) → result_at p.run seq ≡ known_result r (number_for n r) → IsOfTool options run.tool r
-      → HasArtifact (bases_alone run.records) n (base_alone r) → n < 2 ^ 32 → item_of p seq ≡ Sound r
+      → HasArtifact (bases_alone run.records) n (base_alone r) → n < 2 ^ 32 → item_of p seq ≡ Sound (as_read r)
   one_item seq n r here of_tool there small =
       by_skip (skips p.source) (is_absent_result (result_at p.run seq)) (record_of p.options.records p.run seq)
       (ap is_absent_result here ∙ not_absent r (number_for n r))
       (ap (λ b. record_of b p.run seq) alike
       ∙ record_from options p.run (known_head (bases_alone run.records)) r.tool seq (known_result r (number_for n r))
-      (known_parts r (number_for n r)) r
+      (known_parts r (number_for n r)) (as_read r)
       (ap head_of is_run ∙ head_is run) (ap tool_name is_run ∙ tool_is run ∙ sym of_tool.tool_is) here
       (parts_is r (number_for n r) options.regions of_tool.readable.guid (number_small n (base_alone r) small)
       (own_region_back options n r of_tool.readable).region_is (own_region_back options n r of_tool.readable).snippet_is)
       (record_back options (bases_alone run.records) n r of_tool.readable there))
     where
-      by_skip : (b absent : Bool) (got : Result Record Fault) → absent ≡ false → got ≡ Ok r → (if b && absent then Skipped else item_by got) ≡ Sound r
+      by_skip : (b absent : Bool) (got : Result Record Fault) → absent ≡ false → got ≡ Ok (as_read r) → (if b && absent then Skipped else item_by got) ≡ Sound (as_read r)
       by_skip false absent got present is = ap item_by is
       by_skip true absent got present is = rw present (ap item_by is)
 
   items_from : (before : List Data) (earlier : List (List ℕ)) (rs : List Record)
       → results_of p.run ≡ before ++ results_from (length earlier) rs → bases_alone run.records ≡ earlier ++ bases_alone rs
       → AllByRecursion (IsOfTool options run.tool) rs → length earlier + length rs ≤ most_results
-      → map (item_of p) (range_with_len (length before) (length rs)) ≡ map Sound rs
+      → map (item_of p) (range_with_len (length before) (length rs)) ≡ map Sound (map as_read rs)
   items_from before earlier [] results bases all few = refl
   items_from before earlier (r ∷ rs) results bases all few =
       let d : Data = known_result r (number_for (length earlier) r) in
       let here : result_at p.run (length before) ≡ d = ap (λ ds. slice_index_or ds (length before) null) results ∙ behind_or before d _ in
       let more = more_bases earlier (base_alone r) (bases_alone rs) in
-      let first : item_of p (length before) ≡ Sound r =
+      let first : item_of p (length before) ≡ Sound (as_read r) =
       one_item (length before) (length earlier) r here all.0
       (there_is earlier (base_alone r) (bases_alone rs) (bases_alone run.records) bases) (omega (arith, few)) in
       let next : length before + 1 ≡ length (before ++ d ∷ []) = sym (length-append before (d ∷ [])) in
@@ -186,10 +186,10 @@ module _ (options : RecordOptions) (run : Chosen) (p : Placed) (is_run : p.run �
       (results ∙ sym (append_assoc before (d ∷ []) (results_from (next_number (length earlier) (base_alone r)) rs))
       ∙ ap (λ n. (before ++ d ∷ []) ++ results_from n rs) (sym more.2))
       (bases ∙ sym more.1) all.1 (rw more.2 (next_small (length earlier) (base_alone r) (length rs) few)) in
-      (λ i. first i ∷ map (item_of p) (range_with_len (next i) (length rs))) ∙ ap (λ l. Sound r ∷ l) rest
+      (λ i. first i ∷ map (item_of p) (range_with_len (next i) (length rs))) ∙ ap (λ l. Sound (as_read r) ∷ l) rest
 
-  -- its items are its records
-  pub items_are : AllByRecursion (IsOfTool options run.tool) run.records → length run.records ≤ most_results → all_items p ≡ map Sound run.records
+  -- its items are its records, as they are read
+  pub items_are : AllByRecursion (IsOfTool options run.tool) run.records → length run.records ≤ most_results → all_items p ≡ map Sound (map as_read run.records)
   items_are all few =
       let results : results_of p.run ≡ results_from 0 run.records = ap results_of is_run ∙ results_are run in
       ap (λ n. map (item_of p) (range_with_len 0 n)) (ap length results ∙ count_is 0 run.records)
@@ -208,14 +208,14 @@ no_faults : (options : RecordOptions) (run : Chosen) (p : Placed) → p.run ≡ 
 no_faults options run p is_run alike all few =
     let opened = ap (opened_of p.options.must_succeed) is_run ∙ opened_is run p.options.must_succeed in
     rw (opened, items_are options run p is_run alike all few)
-    (no_bad (λ n. Rattle.sarif_model.specs.declared.merge_fault.At.TheVariants.Single p.source p.number n) 0 run.records)
+    (no_bad (λ n. Rattle.sarif_model.specs.declared.merge_fault.At.TheVariants.Single p.source p.number n) 0 (map as_read run.records))
 
 -- ---- runs
 
 cons_run : (x y : Data) (xs ys : List Data) → x ∷ xs ≡ y ∷ ys → (x ≡ y) × (xs ≡ ys)
 cons_run x y xs ys is = (cc, cc)
 
--- the runs have no errors, and their records are exactly these
+-- the runs have no errors, and their records are exactly these, as they are read
 pub known_again : (options : RecordOptions) (runs : List Chosen) (placed : List Placed) → AreReadWith options placed → run_values placed ≡ map known_run runs
     → AllByRecursion (λ run. AllByRecursion (IsOfTool options run.tool) run.records) runs → results_among runs ≤ most_results
     → AreKnownAgain runs placed
@@ -228,5 +228,5 @@ known_again options (run ∷ runs) (p ∷ placed) alike are all few =
     let some : length run.records ≤ most_results = omega (arith, few) in
     record {
       faultless = rw (no_faults options run p parts.0 alike.0 all.0 some, rest.faultless) refl;
-      records = rw (items_are options run p parts.0 alike.0 all.0 some, all_records run.records, rest.records) refl;
+      records = rw (items_are options run p parts.0 alike.0 all.0 some, all_records (map as_read run.records), rest.records) refl;
     }

@@ -13,6 +13,7 @@ use Rattle.sarif_runs.specs.Placed.{Placed}
 use Rattle.sarif_runs.specs.Ignoring.{without_names}
 use Rattle.sarif_runs.specs.Record.{if_placed}
 use Rattle.sarif_runs.specs.declared.run_options.RecordOptions.{RecordOptions}
+use Rattle.sarif_suppress.specs.Limited.{with_spent}
 use Rattle.sarif_known.specs.Chosen.{Chosen, results_among}
 use Rattle.sarif_model.specs.Written.{text_members}
 
@@ -29,7 +30,7 @@ pub record IsRegion (region : Region) : Type 0 where
 
 -- the facts about each record that was read with these options: its GUID has 128 bits; it has a level only if its kind
 -- is fail; the names of its fingerprints strictly rise, and none is ignored; its region and its snippet are as they are
--- read, and it has them only if regions are read, and with a URI or a base; no entry is used up before it
+-- read, and it has them only if regions are read, and with a URI or a base
 pub record IsReadable (options : RecordOptions) (r : Record) : Type 0 where
   pub guid : IfSome r.guid (λ guid. guid < 2 ^ 128)
   pub level : is_fail r.kind ≡ false → r.level ≡ NoLevel
@@ -43,7 +44,6 @@ pub record IsReadable (options : RecordOptions) (r : Record) : Type 0 where
   pub snippet_placed : if_placed r.place r.snippet ≡ r.snippet
   pub no_region : options.regions ≡ false → r.region ≡ None
   pub no_snippet : options.regions ≡ false → r.snippet ≡ None
-  pub unspent : r.spent ≡ []
 
 -- the results of a run of this tool can be read again with these options
 pub record IsOfTool (options : RecordOptions) (tool : List ℕ) (r : Record) : Type 0 where
@@ -56,11 +56,15 @@ pub record CanBeRead (options : RecordOptions) (runs : List Chosen) : Type 0 whe
   pub few_runs : length runs ≤ most_runs
   pub few_results : results_among runs ≤ most_results
 
+-- the record as it is read, without the entries of a suppression file that are used up before it
+abbrev pub as_read : Record → Record
+as_read r = with_spent r []
+
 -- the runs of a known log in any merge: none has an error, and the records of their results are exactly
--- these, in this order
+-- these as they are read, in this order
 pub record AreKnownAgain (runs : List Chosen) (placed : List Placed) : Type 0 where
   pub faultless : faults_of_runs placed ≡ []
-  pub records : records_of placed ≡ flat_map (λ run. run.records) runs
+  pub records : records_of placed ≡ flat_map (λ run. map as_read run.records) runs
 
 -- the record without the statuses of its own suppressions
 abbrev pub without_own : Record → Record

@@ -4,3 +4,4 @@ pub mod Readable
 pub mod RegionRead
 pub mod Rising
 pub mod SamePartners
+pub mod Spent

@@ -15,6 +15,7 @@ ghost use Rattle.sarif_runs.specs.Judging.{run_values};
 ghost use Rattle.sarif_runs.specs.Placed.{AreReadWith, Placed};
 ghost use Rattle.sarif_runs.specs.Record.{record_of};
 ghost use Rattle.sarif_runs.specs.declared.run_options.RecordOptions.{RecordOptions};
+ghost use Rattle.sarif_suppress.specs.Limited.{with_spent};
 ghost use Rattle.sarif_known.specs.Chosen.{Chosen};
 ghost use Rattle.sarif_known_laws.specs.JustKnown.{StaysOut};
 ghost use Rattle.sarif_known.specs.KnownLog.{known_log};
@@ -25,8 +26,8 @@ ghost use Rattle.sarif_known.specs.declared.standing.Standing.{Standing};
 ghost use Rattle.sarif_model.specs.Driver.{tool_name};
 
 /// What is known is read again: the known log is read without an error, and the records of its results, read with the
-/// same options, are exactly those that were written, in their order. `known_text` ensures the
-/// premise.
+/// same options, are exactly those that were written, in their order, without the entries of a suppression file that are
+/// used up before them. `known_text` ensures the premise.
 pub fn what_is_known_is_read_again()
     ensures log { (options : RecordOptions) (allow : Bool) (runs : List Chosen) (text : List ℕ)
         → CanBeRead options runs
@@ -38,12 +39,12 @@ pub fn what_is_known_is_read_again()
 {}
 
 /// Each result that was read can become known: its record is of its run's tool, and can be read again with the same
-/// options.
+/// options, regardless of the entries of a suppression file that are used up before it.
 pub fn what_is_read_can_be_known()
     ensures { (options : RecordOptions) (allow : Bool) (bytes : List ℕ) (runs : List Data)
-        (k seq : ℕ) (r : Record) → log_of allow bytes ≡ Ok runs
+        (k seq : ℕ) (r : Record) (spent : List ℕ) → log_of allow bytes ≡ Ok runs
         → record_of options (slice_index_or runs k null) seq ≡ Ok r
-        → IsOfTool options (tool_name (slice_index_or runs k null)) r }
+        → IsOfTool options (tool_name (slice_index_or runs k null)) (with_spent r spent) }
 {}
 
 /// Baselines whose records are equal except for their own suppressions give each current result the same match and

@@ -19,19 +19,22 @@ use Rattle.sarif_evidence.specs.declared.version.MatchingVersion.{MatchingVersio
 use Rattle.sarif_evidence.specs.declared.version.MatchingVersion.TheVariants.{Two, Three}
 use Rattle.sarif_runs.specs.declared.run_options.RecordOptions.{RecordOptions}
 use Rattle.sarif_known.specs.Chosen.{Chosen, results_among}
-use Rattle.sarif_known.specs.Laws.{IsOfTool}
+use Rattle.sarif_known.specs.Laws.{IsOfTool, as_read}
 use Rattle.sarif_known.specs.Order.{in_turn, known_runs, runs_of_tool, tools_of}
 use Rattle.sarif_known.specs.declared.standing.Standing.{Standing}
 use Rattle.sarif_known.specs.Selected.{is_left_out, keep_unless, kept_of, known_of, unmatched_of}
-use Rattle.sarif_upkeep.specs.Known.{chosen_before, chosen_now}
+use Rattle.sarif_known_laws.proofs.Spent.{spent_too}
+use Rattle.sarif_upkeep.specs.Known.{chosen_before, chosen_now, records_among}
 use Rattle.sarif_upkeep.proofs.Taken.{kept_of_fewer, known_fewer}
-use Rattle.sarif_suppress.specs.Limited.{with_spent}
-use Rattle.sarif_laws.specs.KnownAgain.{as_read}
 use Rattle.sarif_laws.proofs.Lists.{all_append}
 use Rattle.sarif_laws.proofs.OfTool.{IsSoundRun, own_records}
 
 abbrev pub IsChosenSound : RecordOptions → Chosen → Type 0
 IsChosenSound options run = AllByRecursion (IsOfTool options run.tool) run.records
+
+-- a run with its records as they are read
+abbrev pub run_as_read : Chosen → Chosen
+run_as_read run = record { tool = run.tool; records = map as_read run.records }
 
 -- so is each result, as it is read
 abbrev pub IsChosenAgain : RecordOptions → Chosen → Type 0
@@ -116,11 +119,31 @@ before_sound options heard (p ∷ ps) taken sound logs all =
           (before_sound options heard ps (drop n taken) (no_faults_left (run_faults p) (faults_of_runs ps) sound) logs.1 all.1),
     )
 
+module _ (P : Record → Type 0) where
+  all_taken : (n : ℕ) (rs : List Record) → AllByRecursion P rs → AllByRecursion P (take n rs)
+  all_taken zero rs all = tt
+  all_taken (suc n) [] all = tt
+  all_taken (suc n) (r ∷ rs) all = (all.0, all_taken n rs all.1)
+
+  all_left : (n : ℕ) (rs : List Record) → AllByRecursion P rs → AllByRecursion P (drop n rs)
+  all_left zero rs all = all
+  all_left (suc n) [] all = tt
+  all_left (suc n) (r ∷ rs) all = all_left n rs all.1
+
+  -- what is so of all baseline results is so of those that stay known
+  pub each_kept : (heard : Option (List ℕ) → Bool) (runs : List Data) (rs : List Record) (taken : List Bool) → AllByRecursion P rs
+      → AllByRecursion P (records_among (chosen_before heard runs rs taken))
+  each_kept heard [] rs taken all = tt
+  each_kept heard (run ∷ runs) rs taken all =
+      let n = length (present (results_of run)) in
+      all_append P (kept_of (heard (Some (tool_name run))) (take n rs) (take n taken)) (records_among (chosen_before heard runs (drop n rs) (drop n taken)))
+      (kept_sound P (heard (Some (tool_name run))) (take n rs) (take n taken) (all_taken n rs all)) (each_kept heard runs (drop n rs) (drop n taken) (all_left n rs all))
+
 again_each : (options : RecordOptions) (tool : List ℕ) (rs : List Record) → AllByRecursion (IsOfTool options tool) rs
     → AllByRecursion (λ r. IsOfTool options tool (as_read r)) rs
 again_each options tool [] all = tt
 again_each options tool (r ∷ rs) all =
-    (subst (IsOfTool options tool) (ap (with_spent r) all.0.readable.unspent) all.0, again_each options tool rs all.1)
+    (spent_too options tool r [] all.0, again_each options tool rs all.1)
 
 pub all_again : (options : RecordOptions) (runs : List Chosen) → AllByRecursion (IsChosenSound options) runs → AllByRecursion (IsChosenAgain options) runs
 all_again options [] all = tt

@@ -4,8 +4,8 @@ use Rattle.std.specs.List.{AllByRecursion}
 use Rattle.std.proofs.lemmas.Option.{same_Some}
 use Rattle.sarif_model.specs.declared.record.Record.{Record}
 use Rattle.sarif_entries.specs.File.{File}
+use Rattle.sarif_known.specs.Laws.{as_read}
 use Rattle.sarif_suppress.specs.Limited.{all_spent, all_spent_after, AreUnspent, limited, limited_after, spent_after, with_spent}
-use Rattle.sarif_laws.specs.KnownAgain.{as_read}
 
 -- ---- at a place
 

@@ -34,8 +34,8 @@ use Rattle.sarif_known.specs.KnownResult.{known_result}
 use Rattle.sarif_known.specs.KnownRun.{known_run}
 use Rattle.sarif_runs.specs.declared.run_options.RecordOptions.{RecordOptions}
 use Rattle.sarif_runs.specs.Placed.{AreReadWith}
-use Rattle.sarif_known.specs.Laws.{IsOfTool}
-use Rattle.sarif_suppress.specs.Limited.{AreUnspent, with_spent}
+use Rattle.sarif_known.specs.Laws.{IsOfTool, as_read}
+use Rattle.sarif_suppress.specs.Limited.{with_spent}
 use Rattle.sarif_known.specs.declared.standing.Standing.{Standing}
 use Rattle.sarif_known.specs.Selected.{is_left_out, keep_unless, known_of, unmatched_of}
 use Rattle.sarif_read.specs.Reading.{log_of}
@@ -57,7 +57,7 @@ use Rattle.sarif_upkeep.specs.Known.{adopts, chosen_now, known_before, known_now
 use Rattle.sarif_upkeep.proofs.Taken.{known_fewer}
 use Rattle.sarif_laws.specs.Adopting.{HasNothingNew, IsAbsentOf, IsNextWith, of_tool, results_kept, results_unmatched}
 use Rattle.sarif_laws.specs.Hits.{fails_on, is_hit_in, lists}
-use Rattle.sarif_laws.specs.KnownAgain.{IsKnownAgain, as_read, run_as_read}
+use Rattle.sarif_laws.specs.KnownAgain.{IsKnownAgain}
 use Rattle.sarif_laws.specs.NextMerge.{absent_written}
 use Rattle.sarif_laws.proofs.AbsentKept.{absent_zip}
 use Rattle.sarif_laws.proofs.Accepted.{input_run, no_result}
@@ -65,7 +65,7 @@ use Rattle.sarif_laws.proofs.Adopted.{own_unchanged, same_long}
 use Rattle.sarif_laws.proofs.ByTool.{IsOfOne, known_of_tool, records_among}
 use Rattle.sarif_laws.proofs.ByVersion.{matched_in, turn, turn_among, unmatched_in}
 use Rattle.sarif_laws.proofs.Counted.{hits_counted, none_fails}
-use Rattle.sarif_laws.proofs.KnownRuns.{all_again, before_sound, IsChosenAgain, IsChosenSound, now_sound}
+use Rattle.sarif_laws.proofs.KnownRuns.{all_again, before_sound, each_kept, IsChosenAgain, IsChosenSound, now_sound, run_as_read}
 use Rattle.sarif_laws.proofs.Limited.{read_limited, read_unspent}
 use Rattle.sarif_laws.proofs.Lists.{all_append, same_counts}
 use Rattle.sarif_laws.proofs.OfTool.{sources_sound}
@@ -143,14 +143,9 @@ turn_read : (v : MatchingVersion) (cs more : List Record) → map as_read (turn 
 turn_read Two cs more = map-append as_read cs more
 turn_read Three cs more = map-append as_read more cs
 
-one_unspent : (options : RecordOptions) (tool : List ℕ) (rs : List Record) → AllByRecursion (IsOfTool options tool) rs → AreUnspent rs
-one_unspent options tool [] all = tt
-one_unspent options tool (r ∷ rs) all = (all.0.readable.unspent, one_unspent options tool rs all.1)
-
-among_unspent : (options : RecordOptions) (runs : List Chosen) → AllByRecursion (IsChosenSound options) runs → AreUnspent (records_among runs)
-among_unspent options [] all = tt
-among_unspent options (run ∷ runs) all =
-    all_append (λ r. r.spent ≡ []) run.records (records_among runs) (one_unspent options run.tool run.records all.0) (among_unspent options runs all.1)
+all_as_read : (runs : List Chosen) → flat_map (λ run. map as_read run.records) runs ≡ records_among (map run_as_read runs)
+all_as_read [] = refl
+all_as_read (run ∷ runs) = ap (λ l. map as_read run.records ++ l) (all_as_read runs)
 
 -- ---- objects
 
@@ -237,8 +232,9 @@ module _ (inputs : Inputs) (policy : Policy) (knowing : Knowing) (known : List �
 
   kept_read : map as_read (results_kept inputs policy) ≡ results_kept inputs policy
   kept_read =
+      let m = merge_in inputs policy in
       read_unspent (results_kept inputs policy)
-      (among_unspent (record_options inputs.checks) (known_before (merge_in inputs policy)) before_own_options)
+      (each_kept (λ r. r.spent ≡ []) (heard m.runs) m.before m.known m.taken (records_unspent (baseline_runs inputs)))
 
   all_now : map as_read (records_among (known_now (merge_in inputs policy) (adopts knowing))) ≡ current_of later
   all_now =
@@ -261,6 +257,7 @@ module _ (inputs : Inputs) (policy : Policy) (knowing : Knowing) (known : List �
   records_are = (again.again (baseline_runs later)
       (subst (λ options. AreReadWith options (baseline_runs later)) options_same (read_alike later.checks Baseline 0 later.baselines))
       (baseline_is ∙ runs_alike (runs_known (merge_in inputs policy) knowing))).records
+      ∙ all_as_read (runs_known (merge_in inputs policy) knowing)
 
   same_tools : (tool : List ℕ) → of_tool tool (baseline_of later) ≡ of_tool tool (turn later.checks.matching (current_of later) (results_kept inputs policy))
   same_tools tool =

@@ -1,6 +1,6 @@
 -- The known log of a merge is read as its runs.
 use Rattle.std.proofs.Common.{◌≡◌, ◌+◌, ◌≤◌, ◌++◌, ℕ, Bool, true, false, List, [], ◌∷◌, length, map, Ok, refl, sym, ap, ap₂, subst, ◌∙◌, arith, length-append}
-use Rattle.std.specs.Prelude.{Some, codes, nat_lt, option_map}
+use Rattle.std.specs.Prelude.{Some, codes, flat_map, nat_lt, option_map}
 use Rattle.std.specs.List.{AllByRecursion}
 use Rattle.std.specs.Str.{IsUtf8}
 use Rattle.std.proofs.lemmas.Bool.{ltb-false}
@@ -32,7 +32,7 @@ use Rattle.sarif_known.specs.Chosen.{Chosen, results_among}
 use Rattle.sarif_known.specs.KnownLog.{known_log, known_text, pretty_text}
 use Rattle.sarif_known.specs.KnownResult.{known_result, object_from}
 use Rattle.sarif_known.specs.KnownRun.{artifact_at, base_alone, bases_alone, known_run, next_number, results_from, tool_named, with_some}
-use Rattle.sarif_known.specs.Laws.{CanBeRead, IsOfTool}
+use Rattle.sarif_known.specs.Laws.{CanBeRead, IsOfTool, as_read}
 use Rattle.sarif_runs.specs.declared.run_options.RecordOptions.{RecordOptions}
 use Rattle.sarif_known.proofs.KnownPlain.{log_plain}
 use Rattle.sarif_known.proofs.LogBack.{log_back, text_read}
@@ -44,9 +44,9 @@ use Rattle.sarif_upkeep.specs.Heard.{heard}
 use Rattle.sarif_upkeep.specs.Known.{adopts, known_before, known_now, runs_known}
 use Rattle.sarif_log.proofs.Limits.{records_unspent}
 use Rattle.sarif_merge.specs.MergedLog.{current_of, file_given}
-use Rattle.sarif_laws.specs.KnownAgain.{IsKnownAgain, as_read, run_as_read}
+use Rattle.sarif_laws.specs.KnownAgain.{IsKnownAgain}
 use Rattle.sarif_laws.proofs.Grouping.{known_total, total_results, total_runs}
-use Rattle.sarif_laws.proofs.KnownRuns.{IsChosenAgain, all_again, before_few, before_long, before_sound, grouped_sound, now_few, now_long, now_sound}
+use Rattle.sarif_laws.proofs.KnownRuns.{IsChosenAgain, run_as_read, all_again, before_few, before_long, before_sound, grouped_sound, now_few, now_long, now_sound}
 use Rattle.sarif_laws.proofs.Limited.{read_limited}
 use Rattle.sarif_laws.proofs.OfTool.{sources_sound}
 use Rattle.sarif_laws.proofs.Printed.{pretty_tokens}
@@ -226,6 +226,14 @@ mutual
   members_numbers no_members plain = tt
   members_numbers (member k d ms) plain = (plain_numbers d plain.1, members_numbers ms plain.2)
 
+read_twice : (rs : List Record) → map as_read (map as_read rs) ≡ map as_read rs
+read_twice [] = refl
+read_twice (r ∷ rs) = ap (λ l. as_read r ∷ l) (read_twice rs)
+
+all_twice : (runs : List Chosen) → flat_map (λ run. map as_read run.records) (map run_as_read runs) ≡ flat_map (λ run. map as_read run.records) runs
+all_twice [] = refl
+all_twice (run ∷ runs) = ap₂ (λ xs ys. xs ++ ys) (read_twice run.records) (all_twice runs)
+
 pub known_read : (inputs : Inputs) (policy : Policy) (knowing : Knowing) → faults_of inputs ≡ []
     → IsUtf8 (known_text (runs_known (merge_in inputs policy) knowing))
     → IsKnownAgain (record_options inputs.checks) (runs_known (merge_in inputs policy) knowing) (known_text (runs_known (merge_in inputs policy) knowing))
@@ -242,5 +250,9 @@ known_read inputs policy knowing none utf8 =
     text_read options again (pretty_text d) can (ap pretty_text (sym same)) (tokens_are ∙ ap (λ x. tree.json_tokens (outline x)) (sym same)) utf8 in
     record {
       log = λ allow. log_back options allow again (known_text runs) can value ∙ ap Ok (runs_alike runs);
-      again = λ placed alike are. known_again options again placed alike (are ∙ sym (runs_alike runs)) can.each can.few_results;
+      again = λ placed alike are.
+          let read = known_again options again placed alike (are ∙ sym (runs_alike runs)) can.each can.few_results in record {
+            faultless = read.faultless;
+            records = read.records ∙ all_twice runs;
+          };
     }

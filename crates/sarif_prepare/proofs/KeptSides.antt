@@ -1,5 +1,5 @@
 -- The matched merge, as what is made for later merges sees it.
-use Rattle.std.proofs.Common.{◌≡◌, ◌⊎◌, inl, inr, ◌+◌, ◌++◌, ℕ, suc, List, [], ◌∷◌, Option, Some, None, map, length, length-append, refl, sym, ap, ◌∙◌, arith}
+use Rattle.std.proofs.Common.{◌≡◌, ◌⊎◌, inl, inr, ◌+◌, ◌++◌, ℕ, suc, Bool, List, [], ◌∷◌, Option, Some, None, map, length, length-append, refl, sym, ap, ◌∙◌, arith}
 use Rattle.serde_json.specs.Data.{Data}
 use Rattle.sarif_model.specs.declared.record.Record.{Record}
 use Rattle.sarif_model.specs.Run.{present, results_of}
@@ -8,6 +8,7 @@ use Rattle.sarif_match.specs.Partners.{partners_in}
 use Rattle.std.specs.Prelude.{flat_map, option_map, unwrap_or, IfSome}
 use Rattle.sarif_model.specs.declared.kinds.State.{State}
 use Rattle.sarif_model.specs.declared.kinds.State.TheVariants.{New}
+use Rattle.sarif_options.specs.declared.checks.Checks.{Checks}
 use Rattle.sarif_options.specs.declared.policy.Policy.{Policy}
 use Rattle.sarif_entries.specs.File.{File}
 use Rattle.sarif_runs.specs.Internal.Opened.{placed_of}
@@ -62,19 +63,19 @@ counts_are [] = refl
 counts_are (p ∷ ps) = ap (λ l. length (present (results_of p.run)) ∷ l) (counts_are ps)
 
 -- the value that is passed on is that of the merge
-matched_is : (version : MatchingVersion) (file : File) (bytes : Option (List ℕ)) (policy : Policy) (marks : Marks) (misfit : Option At)
+matched_is : (version : MatchingVersion) (once : Bool) (file : File) (bytes : Option (List ℕ)) (policy : Policy) (marks : Marks) (misfit : Option At)
     (now before : List Placed) (c : Half) (b : Baselines) (p : Paired) (matched : Matched)
     → AreTogether file now before c b → IsPaired version c b p → IsFileOf bytes file
     → matched.file.now ≡ file → option_map (λ x. x.now) matched.bytes ≡ bytes → matched.policy ≡ policy
-    → matched.matching ≡ version
+    → matched.matching ≡ version → matched.once ≡ once
     → option_map (λ x. x.now) matched.chosen ≡ marks → IfSome marks (λ ms. length ms ≡ length (limited_records file now)) → misfit ≡ None
     → matched.current.runs.now ≡ c.runs.items → matched.current.records.now ≡ c.records.items → matched.current.drafts.now ≡ c.drafts.items
     → matched.current.states.now ≡ states_of version (map unspent c.records.items) b.records.items
     → matched.current.standings.now ≡ p.standings.items
     → matched.before.runs.now ≡ b.runs.items → matched.before.counts.now ≡ b.counts.items → matched.before.records.now ≡ b.records.items
     → matched.before.taken.now ≡ p.taken.items
-    → IsMatched (with_choice (merge_of version file bytes policy now before) marks misfit) matched
-matched_is version file bytes policy marks misfit now before c b p matched h q read file_is bytes_are policy_is matching_is marks_are marks_many fits runs_are records_are drafts_are states_are standings_are old_runs_are
+    → IsMatched (with_choice (record (merge_of version file bytes policy now before) { once = once }) marks misfit) matched
+matched_is version once file bytes policy marks misfit now before c b p matched h q read file_is bytes_are policy_is matching_is once_is marks_are marks_many fits runs_are records_are drafts_are states_are standings_are old_runs_are
     counts_is known_are taken_is =
     let rs = records_of now in
     let bs = records_of before in
@@ -84,6 +85,7 @@ matched_is version file bytes policy marks misfit now before c b p matched h q r
       read = read;
       policy = policy_is;
       matching = matching_is;
+      once = once_is;
       chosen = marks_are;
       chosen_long = marks_many;
       fits = fits;
@@ -113,26 +115,26 @@ matched_is version file bytes policy marks misfit now before c b p matched h q r
     }
 
 -- the value is that of the merge with the choice of hits, if there is one
-pub matched_chosen : (version : MatchingVersion) (file : File) (bytes : Option (List ℕ)) (policy : Policy) (choice : Option Choosing) (now before : List Placed)
+pub matched_chosen : (checks : Checks) (file : File) (bytes : Option (List ℕ)) (policy : Policy) (choice : Option Choosing) (now before : List Placed)
     (c : Half) (b : Baselines) (p : Paired) (matched : Matched)
-    → AreTogether file now before c b → IsPaired version c b p → IsFileOf bytes file
+    → AreTogether file now before c b → IsPaired checks.matching c b p → IsFileOf bytes file
     → matched.file.now ≡ file → option_map (λ x. x.now) matched.bytes ≡ bytes → matched.policy ≡ policy
-    → matched.matching ≡ version
-    → option_map (λ x. x.now) matched.chosen ≡ (chosen_merge version file bytes policy choice now before).chosen
-    → (chosen_merge version file bytes policy choice now before).misfit ≡ None
+    → matched.matching ≡ checks.matching → matched.once ≡ checks.once
+    → option_map (λ x. x.now) matched.chosen ≡ (chosen_merge checks file bytes policy choice now before).chosen
+    → (chosen_merge checks file bytes policy choice now before).misfit ≡ None
     → matched.current.runs.now ≡ c.runs.items → matched.current.records.now ≡ c.records.items → matched.current.drafts.now ≡ c.drafts.items
-    → matched.current.states.now ≡ states_of version (map unspent c.records.items) b.records.items
+    → matched.current.states.now ≡ states_of checks.matching (map unspent c.records.items) b.records.items
     → matched.current.standings.now ≡ p.standings.items
     → matched.before.runs.now ≡ b.runs.items → matched.before.counts.now ≡ b.counts.items → matched.before.records.now ≡ b.records.items
     → matched.before.taken.now ≡ p.taken.items
-    → IsMatched (chosen_merge version file bytes policy choice now before) matched
-matched_chosen version file bytes policy None now before c b p matched h q read file_is bytes_are policy_is matching_is marks_are fits =
-    matched_is version file bytes policy None None now before c b p matched h q read file_is bytes_are policy_is matching_is marks_are tt fits
-matched_chosen version file bytes policy (Some choosing) now before c b p matched h q read file_is bytes_are policy_is matching_is marks_are fits =
+    → IsMatched (chosen_merge checks file bytes policy choice now before) matched
+matched_chosen checks file bytes policy None now before c b p matched h q read file_is bytes_are policy_is matching_is once_is marks_are fits =
+    matched_is checks.matching checks.once file bytes policy None None now before c b p matched h q read file_is bytes_are policy_is matching_is once_is marks_are tt fits
+matched_chosen checks file bytes policy (Some choosing) now before c b p matched h q read file_is bytes_are policy_is matching_is once_is marks_are fits =
     let hits = hits_alone policy choosing.roots in
-    matched_is version file bytes policy (Some (marks_in hits choosing.choice (current_runs version file now before)))
-    (misfit_in hits choosing.choice (runs_by version file now before)) now before c b p matched h q read file_is bytes_are policy_is matching_is marks_are
-    (marks_long version hits choosing.choice file now before c b p h q ∙ sym (limited_long file (records_of now))) fits
+    matched_is checks.matching checks.once file bytes policy (Some (marks_in hits choosing.choice (current_runs checks.matching file now before)))
+    (misfit_in hits choosing.choice (runs_by checks.matching file now before)) now before c b p matched h q read file_is bytes_are policy_is matching_is once_is marks_are
+    (marks_long checks.matching hits choosing.choice file now before c b p h q ∙ sym (limited_long file (records_of now))) fits
 
 -- a choice with a place or a rule that fits no chosen hit
 pub misfit_unkept : (m : Merge) (upkeep : Upkeep) (fault : MergeFault)

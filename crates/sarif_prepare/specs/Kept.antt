@@ -1,5 +1,5 @@
 -- What a merge gives for later merges, by its runs and its suppression file.
-use Rattle.std.specs.Prelude.{◌≡◌, ◌⊎◌, ◌+◌, ℕ, List, [], ◌∷◌, Option, Some, None, option_map, slice_index_or, IfSome}
+use Rattle.std.specs.Prelude.{◌≡◌, ◌⊎◌, ◌+◌, ℕ, false, List, [], ◌∷◌, Option, Some, None, option_map, slice_index_or, IfSome}
 use Rattle.sarif_model.specs.declared.merge_fault.MergeFault.{MergeFault}
 use Rattle.sarif_model.specs.FirstFault.{first}
 use Rattle.sarif_model.specs.MergeFault.{out_of_memory}
@@ -33,7 +33,7 @@ abbrev pub standings_of : MatchingVersion → List Record → List Record → Li
 standings_of version cs bs = standings_from version bs (partners_in version cs bs) 0 cs
 
 -- the merge of these input runs and baseline runs, matched by this version, with this suppression file, read from these
--- bytes, under this policy
+-- bytes, under this policy, if each result is counted
 abbrev pub merge_of : MatchingVersion → File → Option (List ℕ) → Policy → List Placed → List Placed
     → Merge
 merge_of version file bytes policy current baseline = record {
@@ -41,6 +41,7 @@ merge_of version file bytes policy current baseline = record {
   bytes = bytes;
   policy = policy;
   matching = version;
+  once = false;
   runs = run_values current;
   records = limited_records file current;
   states = states_of version (records_of current) (records_of baseline);

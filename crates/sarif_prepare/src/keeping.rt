@@ -64,6 +64,7 @@ fn keep<R: Threads + Sync>(
         bytes: rules.bytes,
         policy: asked.options.policy,
         matching: asked.options.checks.matching,
+        once: asked.options.checks.once,
         chosen: lent(&marks),
         current: Current {
             runs: &sides.current.runs,
