@@ -10,30 +10,13 @@ ghost use Rattle.sarif_runs.specs.Internal.Opened.{placed_of};
 ghost use Rattle.sarif_results.specs.Internal.Outcomes.{draft_beside, outcome_of};
 
 use json_parts::Node;
+use sarif_members::is_node_absent;
 use sarif_model::Source;
-use sarif_read::is_marked_absent;
 use sarif_results::{Draft, Outcome, draft_current};
 use sarif_runs::{Item, OpenedRun};
 use sarif_suppress::Suppressions;
 use serde_json::Value;
 use std::alloc::{AllocError, Global};
-
-/// The members of a result that its record is made of (SARIF 2.1.0, "result object").
-const RECORD_MEMBERS: [&str; 13] = [
-    "baselineState",
-    "kind",
-    "level",
-    "correlationGuid",
-    "fingerprints",
-    "partialFingerprints",
-    "suppressions",
-    "message",
-    "ruleId",
-    "ruleIndex",
-    "rule",
-    "provenance",
-    "locations",
-];
 
 /// Whether results that are absent already are skipped: those of a baseline are.
 fn skips_absent(source: Source) -> bool
@@ -42,18 +25,16 @@ fn skips_absent(source: Source) -> bool
     matches!(source, Source::Baseline(_))
 }
 
-/// The item of a baseline result. Only the members of its value that the item needs are made.
-#[tactic(auto, using(sarif_members::proofs::RecordMembers::absent_members))]
+/// The item of a baseline result. No value of the result is made.
 fn judge_known(alloc: Global, opened: &OpenedRun<'_, '_>, seq: u32) -> Result<Item, AllocError>
     requires in_run { seq < length (results_of (placed_of opened.now).run) }
     requires known { skips (placed_of opened.now).source ≡ true }
     ensures { IfOk result (λ item. item ≡ item_of (placed_of opened.now) seq) }
 {
-    let found = opened.pick_result(alloc, seq, &RECORD_MEMBERS)?;
-    if is_marked_absent(&found) {
+    if is_node_absent(opened.node(seq)) {
         return Ok(Item::Skipped);
     }
-    let item = opened.item_of(alloc, &found)?;
+    let item = opened.item_at(alloc, seq)?;
     Ok(item)
 }
 
@@ -77,7 +58,7 @@ fn draft_item(
     }
 }
 
-/// Judges a result of a log. Only the members of its value that its item needs are made.
+/// Judges a result of a log. A value is made of its own suppressions alone.
 #[tactic(auto, using(sarif_results::proofs::WholeResults::result_whole))]
 fn judge_current(
     alloc: Global,
@@ -90,8 +71,8 @@ fn judge_current(
     ensures { IfOk result
         (λ outcome. outcome ≡ outcome_of file.now (placed_of opened.now) seq) }
 {
-    let found = opened.pick_result(alloc, seq, &RECORD_MEMBERS)?;
-    let item = opened.item_of(alloc, &found)?;
+    let item = opened.item_at(alloc, seq)?;
+    let found = opened.pick_result(alloc, seq, &["suppressions"])?;
     let draft = draft_item(alloc, opened.node(seq), found, &item, file)?;
     Ok(Outcome { item, draft })
 }

@@ -1,3 +1,4 @@
 pub mod AlikeMembers
+pub mod FirstObject
+pub mod NodeMembers
 pub mod Pairs
-pub mod RecordMembers

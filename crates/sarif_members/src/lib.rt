@@ -2,9 +2,10 @@
 #![tactic(auto)]
 
 mod laws;
+mod node_members;
 mod own_members;
 mod parts;
 
 pub use laws::same_members_give_the_same_pairs;
-pub use own_members::read_members;
+pub use own_members::{is_node_absent, read_members, read_node_members};
 pub use parts::Parts;

@@ -6,6 +6,7 @@ ghost use Rattle.sarif_members.specs.OwnMembers.{parts_of};
 ghost use Rattle.sarif_model.specs.Internal.Refusal.{IfFault};
 
 mod fingerprints;
+mod indexed;
 mod indexes;
 mod location;
 mod message;
@@ -14,6 +15,7 @@ mod suppressions;
 
 use crate::parts::Parts;
 use fingerprints::read_fingerprints;
+pub use indexed::{is_node_absent, read_node_members};
 use indexes::read_indexes;
 use location::read_location;
 use message::read_message_and_rule;

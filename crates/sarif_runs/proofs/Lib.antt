@@ -1,7 +1,6 @@
 pub mod AllSpots
 pub mod Beside
 pub mod FirstPlaces
-pub mod KnownItems
 pub mod NamedFiles
 pub mod NoneNamed
 pub mod SpotsWithin

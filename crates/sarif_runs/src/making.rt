@@ -5,11 +5,13 @@ ghost use Rattle.sarif_model.specs.Internal.Refusal.{IfFault};
 ghost use Rattle.sarif_runs.specs.Reading.{Gives};
 ghost use Rattle.sarif_runs.specs.Record.{rule_id_of, if_placed, record_by, record_in};
 ghost use Rattle.sarif_model.specs.Driver.{tool_name};
+ghost use Rattle.sarif_read.specs.Internal.Listed.{value_at};
 
 use crate::head::RunHead;
 use crate::ignoring::without_names;
 use crate::run_options::RecordOptions;
-use sarif_members::{Parts, read_members};
+use json_parts::Node;
+use sarif_members::{Parts, read_members, read_node_members};
 use sarif_model::{Fault, Place, Record, Refusal, Sequence, Text, driver_name};
 use serde_json::Value;
 use std::alloc::{AllocError, Global};
@@ -33,8 +35,26 @@ pub fn make_record_of(
         (λ fault. record_in options.now head.now tool.now (view result_value.now) ≡ Err fault) }
 {
     let parts = read_members(alloc, result_value, options.regions)?;
-    let tool = tool.clone()?;
-    finish_record(alloc, head, tool, parts, options.ignored.as_slice())
+    finish_record(alloc, head, tool, parts, options)
+}
+
+/// Makes the record of a result of an indexed log, as [`make_record_of`] does of its stripped value, with the same errors
+/// in the same order. No value of the result is made.
+#[tactic(auto, unfolding(crate::specs::Record::record_in))]
+pub(crate) fn make_node_record(
+    alloc: Global,
+    head: &RunHead,
+    tool: &Text,
+    found: &Node<'_, '_>,
+    options: &RecordOptions<'_>,
+) -> Result<Record, Refusal<Fault>>
+    ensures ok { IfOk result
+        (λ made. record_in options.now head.now tool.now (value_at found.now) ≡ Ok made) }
+    ensures err { IfFault result
+        (λ fault. record_in options.now head.now tool.now (value_at found.now) ≡ Err fault) }
+{
+    let parts = read_node_members(alloc, found, options.regions)?;
+    finish_record(alloc, head, tool, parts, options)
 }
 
 /// The name of the run's driver (SARIF 2.1.0, toolComponent object, "name property"), or the empty string. Returns
@@ -59,17 +79,19 @@ fn keep_if_placed<T: Drop>(place: &Place, found: Option<T>) -> Option<T>
     }
 }
 
-/// The record of a result with these own members, without the fingerprints of these names.
+/// The record of a result with these own members, without the fingerprints whose names the options ignore.
 #[tactic(auto, unfolding(crate::specs::Record::record_by))]
 fn finish_record(
     alloc: Global,
     head: &RunHead,
-    tool: Text,
+    tool: &Text,
     parts: Parts,
-    ignored: &[Text],
+    options: &RecordOptions<'_>,
 ) -> Result<Record, Refusal<Fault>>
-    ensures { Gives result (record_by ignored.now head.now tool parts) }
+    ensures { Gives result (record_by options.now.ignored head.now tool.now parts) }
 {
+    let tool = tool.clone()?;
+    let ignored = options.ignored.as_slice();
     let descriptor = head.descriptor(&parts)?;
     let level = head.level_with(&parts, descriptor)?;
     let place = head.place_with(parts.uri, parts.base, parts.artifact)?;

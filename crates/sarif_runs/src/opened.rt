@@ -9,7 +9,7 @@ ghost use Rattle.sarif_model.specs.Driver.{tool_name};
 
 use crate::head::RunHead;
 use crate::item::Item;
-use crate::making::{copy_tool_name, make_record_of};
+use crate::making::{copy_tool_name, make_node_record};
 use crate::open::open_value;
 use crate::run_options::RunOptions;
 use json_parts::Node;
@@ -53,8 +53,8 @@ fn open_head(
 }
 
 impl<'t, 'a> OpenedRun<'t, 'a> {
-    ghost use Rattle.sarif_runs.specs.Internal.Found.{record_item};
-    ghost use Rattle.sarif_runs.specs.Judging.{opening_fault};
+    ghost use Rattle.sarif_runs.specs.Judging.{item_by, opening_fault};
+    ghost use Rattle.sarif_runs.specs.Record.{record_of};
     ghost use Rattle.sarif_runs.specs.Internal.Opened.{placed_of};
     ghost use Rattle.sarif_runs.specs.Unmarked.{placed_without};
     ghost use Rattle.sarif_read.specs.Internal.Bare.{bare};
@@ -163,17 +163,20 @@ impl<'t, 'a> OpenedRun<'t, 'a> {
         self.run.result(alloc, seq)
     }
 
-    /// The item of this value as a result of the run: its record, as the options say, or its first error. Returns
-    /// `AllocError` if memory runs out.
-    pub fn item_of(&self, alloc: Global, found: &Value) -> Result<Item, AllocError>
-        ensures { IfOk result (λ item. item ≡ record_item (placed_of self.now).options.records
-            (placed_of self.now).run (view found.now)) }
+    /// The record of result `seq` of the run, numbered from 0, as the options say, or its first error; no value of it is
+    /// made. Returns `AllocError` if memory runs out.
+    #[tactic(auto, unfolding(crate::specs::Record::record_of))]
+    pub fn item_at(&self, alloc: Global, seq: u32) -> Result<Item, AllocError>
+        requires { seq < length (results_of (placed_of self.now).run) }
+        ensures { IfOk result (λ item. item ≡ item_by
+            (record_of (placed_of self.now).options.records (placed_of self.now).run seq)) }
     {
         let head = match &self.head {
             Ok(head) => head,
             Err(fault) => return Ok(Item::Bad(*fault)),
         };
-        match make_record_of(alloc, head, &self.tool, found, &self.options.records) {
+        let (found, options) = (self.node(seq), &self.options.records);
+        match make_node_record(alloc, head, &self.tool, found, options) {
             Ok(record) => Ok(Item::Sound(record)),
             Err(Refusal::Fault(fault)) => Ok(Item::Bad(fault)),
             Err(Refusal::OutOfMemory) => Err(AllocError),

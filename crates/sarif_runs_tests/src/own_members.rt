@@ -1,22 +1,19 @@
-//! A result's own members, read from JSON text. Scripts over the program have the rows of results that are rejected.
-use sarif_members::Parts;
+//! A result's own members, read from the index of JSON text. Scripts over the program have the rows of results that are
+//! rejected.
+use json::Scratch;
+use json_parts::index_text;
+use sarif_members::{Parts, read_node_members};
 use sarif_model::{Fault, Kind, Level, Message, Pairs, Refusal, Status, Text};
-use sarif_read::read_log;
-use sarif_runs::read_parts;
 use std::alloc::Global;
 use std::process::Abort;
 use std::test::Fail;
 
-/// What `read_parts` returns for a result with this JSON, after it is read and stripped.
+/// What is read from the index of a result with this JSON.
 fn read(alloc: Global, text: &str) -> Result<Result<Parts, Refusal<Fault>>, Fail> {
-    let run = format!(in alloc;
-        "{{\"tool\":{{\"driver\":{{\"name\":\"lint\"}}}},\"results\":[{text}]}}"
-    )?;
-    let log = format!(in alloc; "{{\"version\":\"2.1.0\",\"runs\":[{run}]}}")?;
-    let log = read_log(alloc, log.as_bytes(), false)?;
-    match log.runs() {
-        [run] if run.len() == 1 => Ok(read_parts(alloc, run, 0, true)),
-        _ => Err(Fail::new("one result is wanted")),
+    let mut scratch = Scratch::new(alloc);
+    match index_text(alloc, text.as_bytes(), &mut scratch) {
+        Ok(index) => Ok(read_node_members(alloc, &index.root(), true)),
+        Err(_) => Err(Fail::new("a result is wanted")),
     }
 }
 
@@ -157,6 +154,8 @@ fn absent_and_null_members_are_the_defaults(rt: HostRuntime) -> Result<(), Fail>
         r#"{"fingerprints":{"a":null,"b":1.5},"message":{"arguments":[1.5]}}"#,
         r#"{"kind":1.5,"ruleIndex":1.0,"rule":{"index":1e2},
             "provenance":{"invocationIndex":-0},"locations":[18446744073709551616]}"#,
+        r#"{"kind":"review","kind":null,"level":"note","level":1.5,"ruleIndex":7,"ruleIndex":-1,
+            "fingerprints":{"a":"x","a":null},"message":{"text":"m"},"message":null}"#,
     ] {
         let parts = accepted(rt.alloc(), text)?;
         assert!(rt; is_empty(&parts), "{text}");

@@ -21,7 +21,10 @@ pub(super) struct Fingerprints {
 
 /// The names of these members with their strings, in order, without members that are null.
 #[tactic(auto, using(crate::proofs::Pairs::pair_steps))]
-fn pairs_of_members(alloc: Global, members: &Map<String, Value>) -> Result<Pairs, Refusal<Fault>>
+pub(super) fn pairs_of_members(
+    alloc: Global,
+    members: &Map<String, Value>,
+) -> Result<Pairs, Refusal<Fault>>
     ensures ok { IfOk result (λ pairs. pairs_among (members_view members.now.entries) ≡ Ok pairs) }
     ensures err { IfFault result
         (λ fault. pairs_among (members_view members.now.entries) ≡ Err fault) }

@@ -61,7 +61,7 @@ fn read_lines(region: Option<&Value>) -> Option<Region>
 }
 
 /// Whether a string is white space alone.
-fn is_all_blank(bytes: &[u8]) -> bool
+pub(super) fn is_all_blank(bytes: &[u8]) -> bool
     ensures { result ≡ list_all is_white_space bytes.now }
 {
     bytes.iter().all(|byte| is_white_space(*byte))
@@ -88,7 +88,7 @@ fn last_line(region: Region) -> u32
 }
 
 /// Whether both are there, and have the same first line and the same last line.
-fn have_same_lines(region: Option<Region>, context: Option<Region>) -> bool
+pub(super) fn have_same_lines(region: Option<Region>, context: Option<Region>) -> bool
     ensures { result ≡ said.have_same_lines region context }
 {
     match (region, context) {
