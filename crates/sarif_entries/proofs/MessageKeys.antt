@@ -1,17 +1,19 @@
--- The key of a message under which an entry is filed is among those of each result that it matches.
-use Rattle.std.proofs.Common.{◌≡◌, ℕ, Bool, true, false, not, ◌&&◌, List, [], ◌∷◌, ◌++◌, Option, Some, None, is_none, is_some, bytes_eq, refl, ap, ◌∙◌, if◌then◌else◌}
-use Rattle.std.proofs.lemmas.Bool.{false≢true, or_left, or_right}
+-- The key under which an entry is filed, by a message or among the entries of its snippet, is among those of each result
+-- that it matches.
+use Rattle.std.proofs.Common.{◌≡◌, ℕ, Bool, true, false, not, ◌&&◌, ◌||◌, List, [], ◌∷◌, ◌++◌, Option, Some, None, is_none, is_some, map, bytes_eq, refl, sym, ap, ◌∙◌, if◌then◌else◌}
+use Rattle.std.proofs.lemmas.Bool.{and_parts, false≢true, or_left, or_right}
 use Rattle.std.proofs.lemmas.List.Folds.{list_any-append}
 use Rattle.std.proofs.lemmas.Slice.Eq.{bytes_eq-Decides, slice_eq-Decides}
 use Rattle.std.specs.Bool.{Decides}
 use Rattle.std.specs.Cmp.Lexicographic.{pointwise}
 use Rattle.std.specs.List.{list_any}
 use Rattle.std.specs.Option.{option_map_or}
-use Rattle.sarif_evidence.specs.Seen.{packed}
+use Rattle.std.specs.Prelude.{slice_get}
 use Rattle.sarif_model.specs.declared.record.Record.{Record}
-use Rattle.sarif_entries.specs.Internal.Filing.{key_of, key_with, keys_under, keys_at, keys_with, message_keys}
-use Rattle.sarif_entries.specs.Condition.{is_snippet, is_text}
+use Rattle.sarif_entries.specs.Internal.Filing.{key_of, key_of_pair, keys_under, keys_at, message_keys, keys_of_pairs, keys_of_uri, keys_beside}
+use Rattle.sarif_entries.specs.Condition.{are_among, is_pair, is_text}
 use Rattle.sarif_entries.specs.Matching.{is_empty}
+use Rattle.sarif_entries.proofs.Meaning.{pair_means}
 
 -- there is a string, and it is the required one, if one is required
 abbrev pub is_there : Option (List ℕ) → Option (List ℕ) → Bool
@@ -99,8 +101,7 @@ pub in_message_keys : (r : Record) (wanted_uri wanted_text wanted_id : Option (L
     → is_there wanted_uri r.place.uri ≡ true → is_there wanted_text r.message.text ≡ true → is_there wanted_id r.message.id ≡ true
     → are_wanted wanted r.message.args ≡ true → is_named wanted_text wanted_id wanted ≡ true
     → is_in (key_of wanted_uri (if is_some wanted_text then wanted_text else wanted_id) wanted) (message_keys r) ≡ true
-in_message_keys r wanted_uri wanted_text wanted_id wanted u t i a named =
-    in_left (key_of wanted_uri head wanted) _ _ (with_uri wanted_uri r.place.uri u)
+in_message_keys r wanted_uri wanted_text wanted_id wanted u t i a named = with_uri wanted_uri r.place.uri u
   where
     head : Option (List ℕ)
     head = if is_some wanted_text then wanted_text else wanted_id
@@ -118,28 +119,67 @@ in_message_keys r wanted_uri wanted_text wanted_id wanted u t i a named =
         ap (λ word. is_in (key_of (Some word) head wanted) (keys_at None r.message ++ keys_at (Some uri) r.message)) same
         ∙ in_right (key_of (Some uri) head wanted) (keys_at None r.message) (keys_at (Some uri) r.message) (at (Some uri))
 
--- the key of a snippet is among those of a result that has it
-pub in_snippet_keys : (r : Record) (wanted : List ℕ) (wanted_uri : Option (List ℕ)) → is_snippet wanted r.snippet ≡ true
-    → is_there wanted_uri r.place.uri ≡ true → is_in (key_with wanted wanted_uri) (message_keys r) ≡ true
-in_snippet_keys r wanted wanted_uri s u =
-    in_right (key_with wanted wanted_uri)
-    (keys_at None r.message ++ (if is_some r.place.uri then keys_at r.place.uri r.message else [])) _
-    (with_snippet r.snippet s)
-  where
-    with_uri : (found : List ℕ) (wanted_uri uri : Option (List ℕ)) → packed wanted ≡ packed found → is_there wanted_uri uri ≡ true
-        → is_in (key_with wanted wanted_uri) (keys_with found uri) ≡ true
-    with_uri found None uri same u =
-        ap (λ text. is_in (text ∷ []) (keys_with found uri)) same
-        ∙ or_left (pointwise bytes_eq (key_with found None) (key_with found None)) _ (itself (key_with found None))
-    with_uri found (Some w) None same u = absurd (false≢true u)
-    with_uri found (Some w) (Some uri) same u =
-        let one : w ≡ uri = (bytes_eq-Decides w uri).0 u in
-        let own : List (List ℕ) = key_with found (Some uri) in
-        ap (λ text. is_in (text ∷ w ∷ []) (keys_with found (Some uri))) same
-        ∙ ap (λ word. is_in (packed found ∷ word ∷ []) (keys_with found (Some uri))) one
-        ∙ or_right (pointwise bytes_eq own (key_with found None)) _ (or_left (pointwise bytes_eq own own) false (itself own))
+-- ---- the keys among the entries of a snippet
 
-    with_snippet : (o : Option (List ℕ)) → is_snippet wanted o ≡ true
-        → is_in (key_with wanted wanted_uri) (option_map_or (λ snippet. keys_with snippet r.place.uri) o []) ≡ true
-    with_snippet None s = absurd (false≢true s)
-    with_snippet (Some found) s = with_uri found wanted_uri r.place.uri ((bytes_eq-Decides (packed wanted) (packed found)).0 s) u
+in_uri_keys : (wanted uri : Option (List ℕ)) → is_there wanted uri ≡ true → is_in (key_of wanted None []) (keys_of_uri uri) ≡ true
+in_uri_keys None uri u = refl
+in_uri_keys (Some w) None u = absurd (false≢true u)
+in_uri_keys (Some w) (Some uri) u =
+    let same : w ≡ uri = (bytes_eq-Decides w uri).0 u in
+    let own : List (List ℕ) = key_of (Some uri) None [] in
+    ap (λ word. is_in (key_of (Some word) None []) (keys_of_uri (Some uri))) same
+    ∙ or_right (pointwise bytes_eq own (key_of None None [])) _ (or_left (pointwise bytes_eq own own) false (itself own))
+
+-- the key of a fingerprint is among those of the fingerprints that include it
+in_pairs_with : (uri : Option (List ℕ)) (pair : List ℕ × List ℕ) (found : List (List ℕ × List ℕ)) → list_any (λ q. is_pair q pair) found ≡ true
+    → is_in (key_of_pair uri pair) (map (key_of_pair uri) found) ≡ true
+in_pairs_with uri pair [] t = absurd (false≢true t)
+in_pairs_with uri pair (q ∷ qs) t =
+    elim (is_pair q pair) as (λ b. is_pair q pair ≡ b → (b || list_any (λ q. is_pair q pair) qs) ≡ true
+    → is_in (key_of_pair uri pair) (map (key_of_pair uri) (q ∷ qs)) ≡ true) [
+      | true ↦ λ same _. ap (λ own. is_in (key_of_pair uri own) (map (key_of_pair uri) (q ∷ qs))) (sym ((pair_means q pair).0 same))
+          ∙ or_left (pointwise bytes_eq (key_of_pair uri q) (key_of_pair uri q)) _ (itself (key_of_pair uri q))
+      | false ↦ λ _ rest. or_right (pointwise bytes_eq (key_of_pair uri pair) (key_of_pair uri q)) _ (in_pairs_with uri pair qs rest)
+    ] refl t
+
+in_pairs : (wanted uri : Option (List ℕ)) (pair : List ℕ × List ℕ) (found : List (List ℕ × List ℕ)) → is_there wanted uri ≡ true
+    → list_any (λ q. is_pair q pair) found ≡ true → is_in (key_of_pair wanted pair) (keys_of_pairs uri found) ≡ true
+in_pairs None uri pair found u t =
+    in_left (key_of_pair None pair) (map (key_of_pair None) found) _ (in_pairs_with None pair found t)
+in_pairs (Some w) None pair found u t = absurd (false≢true u)
+in_pairs (Some w) (Some uri) pair found u t =
+    let same : w ≡ uri = (bytes_eq-Decides w uri).0 u in
+    ap (λ word. is_in (key_of_pair (Some word) pair) (keys_of_pairs (Some uri) found)) same
+    ∙ in_right (key_of_pair (Some uri) pair) (map (key_of_pair None) found) (map (key_of_pair (Some uri)) found)
+    (in_pairs_with (Some uri) pair found t)
+
+-- the key of an entry among those of its snippet is among the keys of a result that meets its conditions
+module _ (r : Record) where
+  in_message : (key : List (List ℕ)) → is_in key (message_keys r) ≡ true → is_in key (keys_beside r) ≡ true
+  in_message key is =
+      in_left key ((message_keys r ++ keys_of_uri r.place.uri) ++ keys_of_pairs r.place.uri r.full) (keys_of_pairs r.place.uri r.partial)
+      (in_left key (message_keys r ++ keys_of_uri r.place.uri) (keys_of_pairs r.place.uri r.full)
+      (in_left key (message_keys r) (keys_of_uri r.place.uri) is))
+
+  pub in_keys_beside : (full partial : List (List ℕ × List ℕ)) (uri text id : Option (List ℕ)) (args : List (List ℕ))
+      → are_among full r.full ≡ true → are_among partial r.partial ≡ true → is_there uri r.place.uri ≡ true
+      → is_there text r.message.text ≡ true → is_there id r.message.id ≡ true → are_wanted args r.message.args ≡ true
+      → is_in (option_map_or (key_of_pair uri) (if is_empty full then slice_get partial 0 else slice_get full 0)
+      (key_of uri (if is_some text then text else id) args)) (keys_beside r) ≡ true
+  in_keys_beside (pair ∷ full) partial uri text id args f p u t i a =
+      in_left (key_of_pair uri pair) ((message_keys r ++ keys_of_uri r.place.uri) ++ keys_of_pairs r.place.uri r.full) (keys_of_pairs r.place.uri r.partial)
+      (in_right (key_of_pair uri pair) (message_keys r ++ keys_of_uri r.place.uri) (keys_of_pairs r.place.uri r.full)
+      (in_pairs uri r.place.uri pair r.full u (and_parts (list_any (λ q. is_pair q pair) r.full) (are_among full r.full) f).0))
+  in_keys_beside [] (pair ∷ partial) uri text id args f p u t i a =
+      in_right (key_of_pair uri pair) ((message_keys r ++ keys_of_uri r.place.uri) ++ keys_of_pairs r.place.uri r.full) (keys_of_pairs r.place.uri r.partial)
+      (in_pairs uri r.place.uri pair r.partial u (and_parts (list_any (λ q. is_pair q pair) r.partial) (are_among partial r.partial) p).0)
+  in_keys_beside [] [] uri (Some text) id args f p u t i a =
+      in_message (key_of uri (Some text) args) (in_message_keys r uri (Some text) id args u t i a refl)
+  in_keys_beside [] [] uri None (Some id) args f p u t i a =
+      in_message (key_of uri (Some id) args) (in_message_keys r uri None (Some id) args u t i a refl)
+  in_keys_beside [] [] uri None None (arg ∷ args) f p u t i a =
+      in_message (key_of uri None (arg ∷ args)) (in_message_keys r uri None None (arg ∷ args) u t i a refl)
+  in_keys_beside [] [] uri None None [] f p u t i a =
+      in_left (key_of uri None []) ((message_keys r ++ keys_of_uri r.place.uri) ++ keys_of_pairs r.place.uri r.full) (keys_of_pairs r.place.uri r.partial)
+      (in_left (key_of uri None []) (message_keys r ++ keys_of_uri r.place.uri) (keys_of_pairs r.place.uri r.full)
+      (in_right (key_of uri None []) (message_keys r) (keys_of_uri r.place.uri) (in_uri_keys uri r.place.uri u)))

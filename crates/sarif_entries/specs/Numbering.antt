@@ -12,7 +12,7 @@ limit_with n limit = option_map (λ (own : Limit). record own { number = n }) li
 abbrev pub with_number : ℕ → Entry → Entry
 with_number n e = record e { limit = limit_with n e.limit }
 
--- the entries, of which the first has number n
+-- the entries with numbers in order; the first entry has number n
 abbrev pub numbered_from : ℕ → List Entry → List Entry
 numbered_from n [] = []
 numbered_from n (e ∷ es) = with_number n e ∷ numbered_from (n + 1) es

@@ -5,7 +5,7 @@ ghost use Rattle.sarif_entries.specs.Internal.Filing as said;
 
 use crate::condition::{Condition, ConditionKind, of_kind, text_in};
 use crate::entry::Entry;
-use crate::message_keys::key_of;
+use crate::message_keys::{key_of, key_of_pair};
 use sarif_evidence::packed;
 use sarif_model::{Sequence, Text};
 use std::alloc::{AllocError, Global};
@@ -87,23 +87,15 @@ fn has_no_guid_or_full(conditions: &[Condition]) -> bool
         && pairs_in(conditions, ConditionKind::Fingerprints).is_empty()
 }
 
-/// Returns the key of the snippet that is named, with the URI that is named, unless a GUID is.
-fn snippet_key(
-    alloc: Global,
-    conditions: &[Condition],
-) -> Result<Option<Sequence<Text>>, AllocError>
-    ensures { IfOk result (λ key. key ≡ said.snippet_key conditions.now) }
+/// Returns the first named fingerprint, otherwise the first named partial fingerprint.
+fn first_pair(conditions: &[Condition]) -> Option<(&Text, &Text)>
+    ensures { option_map (λ p. (p.0.now, p.1.now)) result ≡ said.first_pair conditions.now }
 {
-    if guid_in(conditions).is_some() {
-        return Ok(None);
-    }
-    match text_in(conditions, ConditionKind::Snippet) {
-        None => Ok(None),
-        Some(snippet) => {
-            let snippet = packed(alloc, snippet.as_str())?;
-            let uri = text_in(conditions, ConditionKind::Uri);
-            Ok(Some(key_of(alloc, Some(&snippet), uri, &[])?))
-        }
+    let full = pairs_in(conditions, ConditionKind::Fingerprints);
+    if full.is_empty() {
+        first_of(pairs_in(conditions, ConditionKind::PartialFingerprints))
+    } else {
+        first_of(full)
     }
 }
 
@@ -158,6 +150,34 @@ impl Entry {
         guid_in(self.conditions.as_slice())
     }
 
+    /// Returns the snippet that the entry names, without white space, where the entry is filed under it. Returns
+    /// `AllocError` if memory for it runs out.
+    pub fn snippet_key(&self, alloc: Global) -> Result<Option<Text>, AllocError>
+        ensures { IfOk result (λ key. key ≡ said.snippet_key self.now.conditions) }
+    {
+        let conditions = self.conditions.as_slice();
+        if guid_in(conditions).is_some() {
+            return Ok(None);
+        }
+        match text_in(conditions, ConditionKind::Snippet) {
+            Some(snippet) => Ok(Some(packed(alloc, snippet.as_str())?)),
+            None => Ok(None),
+        }
+    }
+
+    /// Returns the key of the entry among those of its snippet: its first fingerprint, otherwise what is named of the
+    /// message, each with the URI that is named. Returns `AllocError` if memory for it runs out.
+    pub fn key_beside_snippet(&self, alloc: Global) -> Result<Sequence<Text>, AllocError>
+        ensures { IfOk result (λ key. key ≡ said.key_beside self.now.conditions) }
+    {
+        let conditions = self.conditions.as_slice();
+        let uri = text_in(conditions, ConditionKind::Uri);
+        if let Some((name, value)) = first_pair(conditions) {
+            return key_of_pair(alloc, uri, name, value);
+        }
+        key_of(alloc, uri, head_in(conditions), args_in(conditions))
+    }
+
     /// The first fingerprint that is named, where the entry is filed under it.
     pub fn pair_key(&self, which: PairCondition) -> Option<(&Text, &Text)>
         ensures { option_map (λ p. (p.0.now, p.1.now)) result
@@ -197,15 +217,11 @@ impl Entry {
         }
     }
 
-    /// The snippet that is named, otherwise what is named of the message, with the URI that is named, where the entry is
-    /// filed under it.
+    /// What is named of the message, with the URI that is named, where the entry is filed under it.
     pub fn message_key(&self, alloc: Global) -> Result<Option<Sequence<Text>>, AllocError>
         ensures { IfOk result (λ key. key ≡ said.message_key self.now.conditions) }
     {
         let conditions = self.conditions.as_slice();
-        if let Some(key) = snippet_key(alloc, conditions)? {
-            return Ok(Some(key));
-        }
         if !is_unmarked(conditions) || has_no_message(conditions) {
             return Ok(None);
         }

@@ -1,5 +1,5 @@
 -- The entries that may match a result: all that match it are among them.
-use Rattle.std.proofs.Common.{◌≡◌, ℕ, Bool, true, false, not, ◌&&◌, ◌||◌, List, [], ◌∷◌, ◌++◌, Option, Some, None, nat_eq, bytes_eq, refl, sym, ap, ◌∙◌, arith, if◌then◌else◌}
+use Rattle.std.proofs.Common.{◌≡◌, ℕ, Bool, true, false, not, ◌&&◌, ◌||◌, List, [], ◌∷◌, ◌++◌, Option, Some, None, is_some, nat_eq, bytes_eq, refl, sym, ap, ◌∙◌, arith, if◌then◌else◌}
 use Rattle.std.proofs.lemmas.Bool.{and_parts, false≢true, or_left, or_right}
 use Rattle.std.specs.Cmp.Lexicographic.{pointwise}
 use Rattle.std.specs.List.{flat_map, list_any}
@@ -8,6 +8,8 @@ use Rattle.std.specs.Prelude.{option_and_then, slice_get}
 use Rattle.std.proofs.lemmas.List.{append_assoc}
 use Rattle.std.proofs.lemmas.List.Folds.{list_any-append}
 use Rattle.sarif_model.specs.declared.record.Record.{Record}
+use Rattle.indexmap.specs.IndexMap.{get}
+use Rattle.sarif_evidence.specs.Seen.{packed}
 use Rattle.sarif_entries.specs.declared.condition.Condition.{Condition}
 use Rattle.sarif_entries.specs.declared.condition.Condition.TheVariants as condition
 use Rattle.sarif_entries.specs.declared.condition.ConditionKind.{ConditionKind}
@@ -17,16 +19,17 @@ use Rattle.sarif_entries.specs.declared.filing.PairCondition.TheVariants.{Full, 
 use Rattle.sarif_entries.specs.declared.filing.TextCondition.TheVariants.{Uri, RuleId, Tool}
 use Rattle.sarif_filing.specs.declared.prefixes.PrefixTable.{PrefixTable}
 use Rattle.sarif_filing.specs.declared.table.Table.{Table}
-use Rattle.sarif_entries.specs.Internal.Filing.{asks_for_guid, asks_for_pair, asks_for_message, asks_for_text, asks_for_none, key_with, message_key, prefix_key, message_keys, guid_of, pairs_of, texts_of, guid_in, pairs_in, args_in}
-use Rattle.sarif_filing.specs.Internal.Table.{candidates}
+use Rattle.sarif_entries.specs.Internal.Filing.{asks_for_guid, asks_for_snippet, asks_for_pair, asks_for_message, asks_for_text, asks_for_none, key_of, key_of_pair, key_beside, snippet_key, prefix_key, message_keys, keys_beside, guid_of, pairs_of, texts_of, guid_in, pairs_in, args_in}
+use Rattle.sarif_filing.specs.Internal.Snippets.{Within, numbers_within, found_within}
+use Rattle.sarif_filing.specs.Internal.Table.{candidates, under_snippet}
 use Rattle.sarif_entries.specs.Condition.{is_text, begins, is_guid, is_snippet, is_pair, are_among, holds, kind_of, is_kind, of_kind, text_of, text_in}
-use Rattle.sarif_entries.specs.Matching.{hold, is_expired, is_met, is_used_up, matches}
+use Rattle.sarif_entries.specs.Matching.{hold, is_empty, is_expired, is_met, is_used_up, matches}
 use Rattle.sarif_filing.specs.Numbers.{numbers_from, numbers_at}
 use Rattle.sarif_filing.specs.Internal.Prefixes.{IsPrefixTable, found_for}
 use Rattle.sarif_filing.specs.Internal.Table.{IsTable}
 use Rattle.sarif_filing.proofs.Begun.{found_begun}
 use Rattle.sarif_entries.proofs.Meaning.{pair_means}
-use Rattle.sarif_entries.proofs.MessageKeys.{is_there, are_wanted, in_message_keys, in_snippet_keys}
+use Rattle.sarif_entries.proofs.MessageKeys.{is_there, are_wanted, in_message_keys, in_keys_beside}
 use Rattle.sarif_filing.proofs.Numbered.{has, has_from}
 
 flat_same : {K : Type 0} (f g : K → List ℕ) (ks : List K) → ((k : K) → f k ≡ g k) → flat_map f ks ≡ flat_map g ks
@@ -37,26 +40,46 @@ there_same : {K : Type 0} (f g : K → List ℕ) (o : Option K) → ((k : K) →
 there_same f g None same = refl
 there_same f g (Some k) same = same k
 
-nested : (a b c d e f g h : List ℕ) → ((((((a ++ b) ++ c) ++ d) ++ e) ++ f) ++ g) ++ h ≡ a ++ (b ++ (c ++ (d ++ (e ++ (f ++ (g ++ h))))))
-nested a b c d e f g h =
-    rw (append_assoc, append_assoc, append_assoc, append_assoc, append_assoc, append_assoc) refl
+nothing : (keys : List (List (List ℕ))) → flat_map {X = List (List ℕ)} {A = ℕ} (λ key. []) keys ≡ []
+nothing [] = refl
+nothing (key ∷ keys) = nothing keys
+
+-- the numbers for one snippet are those for it and each key
+each_key : {S : Type 0} (table : Within S) (snippet : List ℕ) (keys : List (List (List ℕ)))
+    → found_within table snippet keys ≡ flat_map (numbers_within table snippet) keys
+each_key table snippet keys =
+    elim (get bytes_eq table snippet) as (λ o. option_map_or (λ keyed. flat_map (numbers_at (pointwise bytes_eq) keyed) keys) o []
+    ≡ flat_map (λ key. option_map_or (λ keyed. numbers_at (pointwise bytes_eq) keyed key) o []) keys) [
+      | None ↦ sym (nothing keys)
+      | Some keyed ↦ refl
+    ]
+
+nested : (a s b c d e f g h : List ℕ)
+    → (((((((a ++ s) ++ b) ++ c) ++ d) ++ e) ++ f) ++ g) ++ h ≡ a ++ (s ++ (b ++ (c ++ (d ++ (e ++ (f ++ (g ++ h)))))))
+nested a s b c d e f g h =
+    rw (append_assoc, append_assoc, append_assoc, append_assoc, append_assoc, append_assoc, append_assoc) refl
 
 -- what the tables have for a result
 pub from_tables : {S H : Type 0} (entries : List Entry) (table : Table S H) (r : Record) → IsTable entries table
     →
-    ((((((option_map_or (numbers_at nat_eq table.guids) r.guid [] ++ flat_map (numbers_at is_pair table.pairs.full) r.full)
+    (((((((option_map_or (numbers_at nat_eq table.guids) r.guid []
+    ++ option_map_or (λ text. found_within table.snippets (packed text) (keys_beside r)) r.snippet [])
+    ++ flat_map (numbers_at is_pair table.pairs.full) r.full)
     ++ flat_map (numbers_at is_pair table.pairs.partial) r.partial)
     ++ flat_map (numbers_at (pointwise bytes_eq) table.texts.messages) (message_keys r))
     ++ option_map_or (numbers_at bytes_eq table.texts.uris) r.place.uri []) ++ numbers_at bytes_eq table.texts.rules r.rule_id)
     ++ numbers_at bytes_eq table.texts.tools r.tool) ++ table.others.items ≡ candidates entries r
 from_tables entries table r is =
-    nested (option_map_or (numbers_at nat_eq table.guids) r.guid []) (flat_map (numbers_at is_pair table.pairs.full) r.full)
+    nested (option_map_or (numbers_at nat_eq table.guids) r.guid [])
+    (option_map_or (λ text. found_within table.snippets (packed text) (keys_beside r)) r.snippet [])
+    (flat_map (numbers_at is_pair table.pairs.full) r.full)
     (flat_map (numbers_at is_pair table.pairs.partial) r.partial)
     (flat_map (numbers_at (pointwise bytes_eq) table.texts.messages) (message_keys r))
     (option_map_or (numbers_at bytes_eq table.texts.uris) r.place.uri []) (numbers_at bytes_eq table.texts.rules r.rule_id)
     (numbers_at bytes_eq table.texts.tools r.tool) table.others.items
     ∙ rw (
       there_same _ _ r.guid is.guids,
+      there_same _ _ r.snippet beside,
       flat_same _ _ r.full is.pairs.full,
       flat_same _ _ r.partial is.pairs.partial,
       flat_same _ _ (message_keys r) is.texts.messages,
@@ -65,16 +88,21 @@ from_tables entries table r is =
       is.texts.tools r.tool,
       is.rest,
     ) refl
+  where
+    beside : (text : List ℕ) → found_within table.snippets (packed text) (keys_beside r) ≡ under_snippet entries (packed text) (keys_beside r)
+    beside text =
+        each_key table.snippets (packed text) (keys_beside r) ∙ flat_same _ _ (keys_beside r) (is.snippets (packed text))
 
 -- the result has what the entry is filed under
 abbrev is_asked : Entry → Record → Bool
 is_asked e r =
     option_map_or (λ guid. asks_for_guid guid e) r.guid false
+    || (option_map_or (λ text. list_any (λ key. asks_for_snippet (packed text) key e) (keys_beside r)) r.snippet false
     || (list_any (λ pair. asks_for_pair Full pair e) r.full
     || (list_any (λ pair. asks_for_pair Partial pair e) r.partial
     || (list_any (λ key. asks_for_message key e) (message_keys r)
     || (option_map_or (λ uri. asks_for_text Uri uri e) r.place.uri false
-    || (asks_for_text RuleId r.rule_id e || (asks_for_text Tool r.tool e || asks_for_none e))))))
+    || (asks_for_text RuleId r.rule_id e || (asks_for_text Tool r.tool e || asks_for_none e)))))))
 
 has_flat : {K : Type 0} (n : ℕ) (under : K → List ℕ) (test : K → Bool) (ks : List K) → ((k : K) → has n (under k) ≡ test k)
     → has n (flat_map under ks) ≡ list_any test ks
@@ -90,9 +118,21 @@ has_there n under test (Some k) is = is k
 has_candidates : (es : List Entry) (r : Record) (n : ℕ) (e : Entry) → slice_get es n ≡ Some e → has n (candidates es r) ≡ is_asked e r
 has_candidates es r n e is =
     let at : (test : Entry → Bool) → has n (numbers_from test 0 es) ≡ test e = λ test. has_from test 0 n n es e (omega arith) is in
-    rw (list_any-append, list_any-append, list_any-append, list_any-append, list_any-append, list_any-append, list_any-append)
+    rw (
+      list_any-append,
+      list_any-append,
+      list_any-append,
+      list_any-append,
+      list_any-append,
+      list_any-append,
+      list_any-append,
+      list_any-append,
+    )
     (rw (
       has_there n (λ guid. numbers_from (asks_for_guid guid) 0 es) (λ guid. asks_for_guid guid e) r.guid (λ guid. at (asks_for_guid guid)),
+      has_there n (λ text. under_snippet es (packed text) (keys_beside r)) (λ text. list_any (λ key. asks_for_snippet (packed text) key e) (keys_beside r))
+          r.snippet (λ text. has_flat n (λ key. numbers_from (asks_for_snippet (packed text) key) 0 es)
+          (λ key. asks_for_snippet (packed text) key e) (keys_beside r) (λ key. at (asks_for_snippet (packed text) key))),
       has_flat n (λ pair. numbers_from (asks_for_pair Full pair) 0 es) (λ pair. asks_for_pair Full pair e) r.full
           (λ pair. at (asks_for_pair Full pair)),
       has_flat n (λ pair. numbers_from (asks_for_pair Partial pair) 0 es) (λ pair. asks_for_pair Partial pair e) r.partial
@@ -252,21 +292,27 @@ module _ (r : Record) where
   }
 
 -- a condition that one of these satisfies
-module _ (g f p m u ru t o : Bool) where
+module _ (g s f p m u ru t o : Bool) where
   abbrev one_of : Bool
-  one_of = g || (f || (p || (m || (u || (ru || (t || o))))))
+  one_of = g || (s || (f || (p || (m || (u || (ru || (t || o)))))))
+
+  in_snippet : s ≡ true → one_of ≡ true
+  in_snippet is = or_right g _ (or_left s _ is)
+
+  behind_snippet : (f || (p || (m || (u || (ru || (t || o)))))) ≡ true → one_of ≡ true
+  behind_snippet is = or_right g _ (or_right s _ is)
 
   in_full : f ≡ true → one_of ≡ true
-  in_full is = or_right g _ (or_left f _ is)
+  in_full is = behind_snippet (or_left f _ is)
 
   in_partial : p ≡ true → one_of ≡ true
-  in_partial is = or_right g _ (or_right f _ (or_left p _ is))
+  in_partial is = behind_snippet (or_right f _ (or_left p _ is))
 
   in_message : m ≡ true → one_of ≡ true
-  in_message is = or_right g _ (or_right f _ (or_right p _ (or_left m _ is)))
+  in_message is = behind_snippet (or_right f _ (or_right p _ (or_left m _ is)))
 
   behind_message : (u || (ru || (t || o))) ≡ true → one_of ≡ true
-  behind_message is = or_right g _ (or_right f _ (or_right p _ (or_right m _ is)))
+  behind_message is = behind_snippet (or_right f _ (or_right p _ (or_right m _ is)))
 
   in_uri : u ≡ true → one_of ≡ true
   in_uri is = behind_message (or_left u _ is)
@@ -295,14 +341,21 @@ record Names (cs : List Condition) (g : Option ℕ) (sn : Option (List ℕ)) (f 
   id : text_in kinds.MessageId cs ≡ i
   args : args_in cs ≡ ws
 
--- an entry with a snippet and without a GUID is filed under the snippet
-by_snippet : (cs : List Condition) (snippet : List ℕ) → guid_in cs ≡ None → text_in kinds.Snippet cs ≡ Some snippet
-    → message_key cs ≡ Some (key_with snippet (text_in kinds.Uri cs))
-by_snippet cs snippet none there = rw (none, there) refl
+-- an entry that is filed under a snippet and a key is found with the snippet and these keys
+its_snippet : (e : Entry) (wanted : List ℕ) (key : List (List ℕ)) (keys : List (List (List ℕ))) (found : Option (List ℕ))
+    → snippet_key e.conditions ≡ Some (packed wanted) → key_beside e.conditions ≡ key → is_snippet wanted found ≡ true
+    → list_any (λ k. pointwise bytes_eq key k) keys ≡ true
+    → option_map_or (λ text. list_any (λ k. asks_for_snippet (packed text) k e) keys) found false ≡ true
+its_snippet e wanted key keys None filed beside s is = absurd (false≢true s)
+its_snippet e wanted key keys (Some text) filed beside s is = rw (filed, beside, s) is
 
 module _ (e : Entry) (r : Record) (begun : Bool) where
   abbrev by_guid : Bool
   by_guid = option_map_or (λ guid. asks_for_guid guid e) r.guid false
+
+  abbrev by_snippet : Bool
+  by_snippet =
+      option_map_or (λ text. list_any (λ key. asks_for_snippet (packed text) key e) (keys_beside r)) r.snippet false
 
   abbrev by_full : Bool
   by_full = list_any (λ pair. asks_for_pair Full pair e) r.full
@@ -331,51 +384,52 @@ module _ (e : Entry) (r : Record) (begun : Bool) where
       or_left (is_asked e r) begun (or_left by_guid _ (rw (n.guid) (its_guid g r.guid parts.guid)))
   is_filed None (Some sn) f p m u ru px t i ws n parts found =
       or_left (is_asked e r) begun
-      (in_message by_guid by_full by_partial by_message by_uri by_rule by_tool (asks_for_none e)
-      (ap (λ o. list_any (λ key. option_map_or (λ own. pointwise bytes_eq own key) o false) (message_keys r))
-      (by_snippet e.conditions sn n.guid n.snippet ∙ ap (λ uri. Some (key_with sn uri)) n.uri)
-      ∙ in_snippet_keys r sn u parts.snippet parts.uri))
+      (in_snippet by_guid by_snippet by_full by_partial by_message by_uri by_rule by_tool (asks_for_none e)
+      (its_snippet e sn
+      (option_map_or (key_of_pair u) (if is_empty f then slice_get p 0 else slice_get f 0) (key_of u (if is_some m then m else i) ws))
+      (keys_beside r) r.snippet (rw (n.guid, n.snippet) refl) (rw (n.full, n.partial, n.uri, n.message, n.id, n.args) refl) parts.snippet
+      (in_keys_beside r f p u m i ws parts.full parts.partial parts.uri parts.message parts.id parts.args)))
   is_filed None None (q ∷ f) p m u ru px t i ws n parts found =
       or_left (is_asked e r) begun
-      (in_full by_guid by_full by_partial by_message by_uri by_rule by_tool (asks_for_none e)
+      (in_full by_guid by_snippet by_full by_partial by_message by_uri by_rule by_tool (asks_for_none e)
       (rw (n.guid, n.snippet, n.full) (its_pair q r.full (and_parts (list_any (λ o. is_pair o q) r.full) (are_among f r.full) parts.full).0)))
   is_filed None None [] (q ∷ p) m u ru px t i ws n parts found =
       or_left (is_asked e r) begun
-      (in_partial by_guid by_full by_partial by_message by_uri by_rule by_tool (asks_for_none e)
+      (in_partial by_guid by_snippet by_full by_partial by_message by_uri by_rule by_tool (asks_for_none e)
       (rw (n.guid, n.snippet, n.full, n.partial)
       (its_pair q r.partial (and_parts (list_any (λ o. is_pair o q) r.partial) (are_among p r.partial) parts.partial).0)))
   is_filed None None [] [] (Some m) u ru px t i ws n parts found =
       or_left (is_asked e r) begun
-      (in_message by_guid by_full by_partial by_message by_uri by_rule by_tool (asks_for_none e)
+      (in_message by_guid by_snippet by_full by_partial by_message by_uri by_rule by_tool (asks_for_none e)
       (rw (n.guid, n.snippet, n.full, n.partial, n.message, n.uri, n.args)
       (in_message_keys r u (Some m) i ws parts.uri parts.message parts.id parts.args refl)))
   is_filed None None [] [] None u ru px t (Some i) ws n parts found =
       or_left (is_asked e r) begun
-      (in_message by_guid by_full by_partial by_message by_uri by_rule by_tool (asks_for_none e)
+      (in_message by_guid by_snippet by_full by_partial by_message by_uri by_rule by_tool (asks_for_none e)
       (rw (n.guid, n.snippet, n.full, n.partial, n.message, n.uri, n.id, n.args)
       (in_message_keys r u None (Some i) ws parts.uri parts.message parts.id parts.args refl)))
   is_filed None None [] [] None u ru px t None (w ∷ ws) n parts found =
       or_left (is_asked e r) begun
-      (in_message by_guid by_full by_partial by_message by_uri by_rule by_tool (asks_for_none e)
+      (in_message by_guid by_snippet by_full by_partial by_message by_uri by_rule by_tool (asks_for_none e)
       (rw (n.guid, n.snippet, n.full, n.partial, n.message, n.uri, n.id, n.args)
       (in_message_keys r u None None (w ∷ ws) parts.uri parts.message parts.id parts.args refl)))
   is_filed None None [] [] None (Some u) ru px t None [] n parts found =
       or_left (is_asked e r) begun
-      (in_uri by_guid by_full by_partial by_message by_uri by_rule by_tool (asks_for_none e)
+      (in_uri by_guid by_snippet by_full by_partial by_message by_uri by_rule by_tool (asks_for_none e)
       (rw (n.guid, n.snippet, n.full, n.partial, n.message, n.uri, n.id, n.args) (its_text u r.place.uri parts.uri)))
   is_filed None None [] [] None None (Some ru) px t None [] n parts found =
       or_left (is_asked e r) begun
-      (in_rule by_guid by_full by_partial by_message by_uri by_rule by_tool (asks_for_none e)
+      (in_rule by_guid by_snippet by_full by_partial by_message by_uri by_rule by_tool (asks_for_none e)
       (rw (n.guid, n.snippet, n.full, n.partial, n.message, n.uri, n.id, n.args, n.rule) parts.rule))
   is_filed None None [] [] None None None (Some px) t None [] n parts found =
       or_right (is_asked e r) begun (found px (rw (n.guid, n.snippet, n.full, n.partial, n.message, n.uri, n.id, n.args, n.rule, n.prefix) refl) parts.prefix)
   is_filed None None [] [] None None None None (Some t) None [] n parts found =
       or_left (is_asked e r) begun
-      (in_tool by_guid by_full by_partial by_message by_uri by_rule by_tool (asks_for_none e)
+      (in_tool by_guid by_snippet by_full by_partial by_message by_uri by_rule by_tool (asks_for_none e)
       (rw (n.guid, n.snippet, n.full, n.partial, n.message, n.uri, n.id, n.args, n.rule, n.prefix, n.tool) parts.tool))
   is_filed None None [] [] None None None None None None [] n parts found =
       or_left (is_asked e r) begun
-      (in_none by_guid by_full by_partial by_message by_uri by_rule by_tool (asks_for_none e)
+      (in_none by_guid by_snippet by_full by_partial by_message by_uri by_rule by_tool (asks_for_none e)
       (rw (n.guid, n.snippet, n.full, n.partial, n.message, n.uri, n.id, n.args, n.rule, n.prefix, n.tool) refl))
 
 -- all entries that match a result are among the candidates and those whose prefix is found

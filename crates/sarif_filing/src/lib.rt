@@ -4,6 +4,7 @@
 
 mod numbers;
 mod prefixes;
+mod snippets;
 mod table;
 
 pub use prefixes::PrefixTable;

@@ -1,8 +1,8 @@
 //! The numbers of the entries by their conditions, so that a result is compared only with entries that may match
-//! it. Each entry is filed under its most specific condition: its GUID, otherwise its snippet, together with its URI if
-//! it names one, otherwise its first fingerprint, otherwise its first partial fingerprint, otherwise what it names of a
-//! message, together with its URI if it names one, otherwise its URI, otherwise its rule id, otherwise its URI prefix, otherwise its tool. Entries under a prefix are
-//! in a separate table.
+//! it. Each entry is filed under its most specific condition: its GUID, otherwise its snippet together with the next one
+//! that it names of fingerprint, message and URI, otherwise its first fingerprint, otherwise its first partial fingerprint,
+//! otherwise what it names of a message, together with its URI if it names one, otherwise its URI, otherwise its rule id,
+//! otherwise its URI prefix, otherwise its tool. Entries under a prefix are in a separate table.
 ghost use Rattle.std.specs.Prelude.{◌≡◌, ◌≤◌, ◌++◌, [], List, ℕ, length, nat_eq, bytes_eq, IfOk, OnOk};
 ghost use Rattle.std.specs.Cmp.Lexicographic.{pointwise};
 ghost use Rattle.std.specs.List.{flat_map};
@@ -14,6 +14,7 @@ ghost use Rattle.sarif_filing.specs.Internal.Table.{ArePairTables, AreTextTables
 ghost use Rattle.sarif_model.specs.Limits.{most_entries};
 
 use crate::numbers::{add_number, numbers_for};
+use crate::snippets::{Keyed, add_with_snippet, numbers_by_snippet};
 use indexmap::IndexMap;
 use sarif_entries::message_keys::message_keys;
 use sarif_entries::{Entry, PairCondition, TextCondition};
@@ -40,10 +41,10 @@ impl<S: BuildHasher + Copy> PairTables<S> {
     }
 }
 
-/// The numbers of the entries, rising, by the text that each is filed under, or by the key of a message or a snippet.
+/// The numbers of the entries, rising, by the text that each is filed under, or by the key of a message.
 #[derive(Drop)]
 struct TextTables<S: BuildHasher + Copy> {
-    messages: IndexMap<Sequence<Text>, Vec<u32>, S>,
+    messages: Keyed<S>,
     uris: IndexMap<Text, Vec<u32>, S>,
     rules: IndexMap<Text, Vec<u32>, S>,
     tools: IndexMap<Text, Vec<u32>, S>,
@@ -72,6 +73,7 @@ impl<S: BuildHasher + Copy> TextTables<S> {
 #[derive(Drop)]
 pub struct Table<S: BuildHasher + Copy> {
     guids: IndexMap<u128, Vec<u32>, S>,
+    snippets: IndexMap<Text, Keyed<S>, S>,
     pairs: PairTables<S>,
     texts: TextTables<S>,
     others: Vec<u32>,
@@ -86,10 +88,12 @@ impl<S: BuildHasher + Copy> Table<S> {
     {
         let others = numbers_of_others(alloc, entries)?;
         let guids = numbers_by_guid(alloc, hasher, entries)?;
+        let snippets = numbers_by_snippet(alloc, hasher, entries)?;
         let pairs = PairTables::new(alloc, hasher, entries)?;
         let texts = TextTables::new(alloc, hasher, entries)?;
         Ok(Table {
             guids,
+            snippets,
             pairs,
             texts,
             others,
@@ -104,6 +108,7 @@ impl<S: BuildHasher + Copy> Table<S> {
     {
         let mut found = Vec::new(alloc);
         found.extend_from_slice(numbers_with_guid(&self.guids, record.guid))?;
+        add_with_snippet(alloc, &mut found, &self.snippets, record)?;
         add_with_pairs(&mut found, &self.pairs.full, record.full.as_slice())?;
         add_with_pairs(&mut found, &self.pairs.partial, record.partial.as_slice())?;
         add_with_message(alloc, &mut found, &self.texts.messages, record)?;
@@ -130,10 +135,10 @@ fn add_with_pairs<S: BuildHasher + Copy>(
     Ok(())
 }
 
-/// Adds the numbers of the entries that are filed under one of these keys of a message.
-fn add_with_keys<S: BuildHasher + Copy>(
+/// Adds the numbers of the entries that are filed under one of these keys.
+pub(crate) fn add_with_keys<S: BuildHasher + Copy>(
     found: &mut Vec<u32>,
-    table: &IndexMap<Sequence<Text>, Vec<u32>, S>,
+    table: &Keyed<S>,
     keys: &[Sequence<Text>],
 ) -> Result<(), AllocError>
     ensures { OnOk result (found.new.items
@@ -145,12 +150,12 @@ fn add_with_keys<S: BuildHasher + Copy>(
     Ok(())
 }
 
-/// Adds the numbers of the entries that are filed under what the result's message has, or under its snippet. If none is
-/// filed so, no key is made.
+/// Adds the numbers of the entries that are filed under what the result's message has. If none is filed so, no key is
+/// made.
 fn add_with_message<S: BuildHasher + Copy>(
     alloc: Global,
     found: &mut Vec<u32>,
-    table: &IndexMap<Sequence<Text>, Vec<u32>, S>,
+    table: &Keyed<S>,
     record: &Record,
 ) -> Result<(), AllocError>
     ensures { OnOk result (found.new.items ≡ found.old.items

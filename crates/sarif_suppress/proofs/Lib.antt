@@ -7,4 +7,5 @@ pub mod Numbered
 pub mod ReadBack
 pub mod Rising
 pub mod Selected
+pub mod Spent
 pub mod WrittenList

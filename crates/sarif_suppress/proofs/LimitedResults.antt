@@ -54,7 +54,7 @@ unlimited_same file rs none unspent = unlimited_after file [] rs none unspent
 
 -- ---- one result
 
--- conditions don't look at the entries that are used up
+-- conditions don't depend on the entries that are used up
 holds_spent : (c : Condition) (r : Record) (numbers : List ℕ) → holds c (with_spent r numbers) ≡ holds c r
 holds_spent (Tool text) r numbers = refl
 holds_spent (RuleId text) r numbers = refl

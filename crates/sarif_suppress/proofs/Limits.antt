@@ -47,7 +47,7 @@ left_more : (today : Option ℕ) (before : List Record) (r : Record) (e : Entry)
     → left_for today (before ++ r ∷ []) e ≡ (if is_met today e r then one_less (left_for today before e) else left_for today before e)
 left_more today before r e = left_step e.limit (is_met today e r) (met_by today e before) (met_by today e (before ++ r ∷ [])) (met_more today e before r)
 
--- nothing is left of the entry just where it is used up
+-- an entry matches no more results exactly if it is used up
 out_by : (limit : Option Limit) (met : ℕ)
     → is_out (option_map (λ (l : Limit). l.most - met) limit) ≡ option_map_or (λ (l : Limit). nat_le l.most met) limit false
 out_by None met = refl

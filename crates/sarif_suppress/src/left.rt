@@ -28,7 +28,7 @@ impl Model for Left {
     ghost view = { λ l. l.left.items };
 }
 
-/// Whether an entry that matches so many more results is used up.
+/// Returns whether an entry that matches this number of further results is used up.
 fn is_out(left: Option<u32>) -> bool
     ensures { result ≡ is_out left }
 {
@@ -48,7 +48,7 @@ fn is_out_at(left: &[Option<u32>], number: u32) -> bool
     }
 }
 
-/// Those of these numbers whose entries are used up.
+/// Returns the numbers whose entries are used up, in order.
 fn list_out(
     alloc: Global,
     left: &[Option<u32>],

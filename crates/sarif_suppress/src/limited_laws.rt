@@ -26,7 +26,8 @@ pub fn an_entry_matches_the_first_results_that_meet_it()
 
 /// An entry of a file that was read matches each result that meets it, but at most as many as its `max`.
 pub fn an_entry_matches_as_many_as_its_limit()
-    ensures { (bytes : List ℕ) (today : Option ℕ) (file : File) (rs : List Record) (n : ℕ) (e : Entry)
+    ensures { (bytes : List ℕ) (today : Option ℕ) (file : File) (rs : List Record)
+        (n : ℕ) (e : Entry)
         → file_of bytes today ≡ Ok file → slice_get file.entries n ≡ Some e
         → count_by (matches file.today e) (limited file rs)
         ≡ option_map_or (λ limit. min (met_by file.today e rs) limit.most) e.limit

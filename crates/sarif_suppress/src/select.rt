@@ -3,30 +3,62 @@ ghost use Rattle.std.specs.Prelude.{◌≡◌, ◌&&◌, [], false, filter, IfOk
 ghost use Rattle.std.specs.BTreeSet.{insert_key, keys};
 ghost use Rattle.std.specs.Ordering.{nat_cmp};
 ghost use Rattle.std.specs.List.{list_all};
-ghost use Rattle.sarif_entries.specs.Matching.{is_empty, matches};
+ghost use Rattle.sarif_entries.specs.Matching.{is_empty, is_used_up, matches};
+ghost use Rattle.sarif_model.specs.declared.record.Record.{Record as Found};
 ghost use Rattle.sarif_suppress.specs.Internal.Numbers.{passes_at, with_numbers};
 ghost use Rattle.sarif_suppress.specs.Suppressing as said;
 ghost use Rattle.sarif_model.specs.Status.{is_accepted};
 
-use sarif_entries::Entry;
+use sarif_entries::{Entry, Limit};
 use sarif_model::{Record, Sequence, Status};
 use std::alloc::{AllocError, Global};
 use std::collections::BTreeSet;
+
+/// Returns the set of these numbers.
+fn set_of(alloc: Global, numbers: &[u32]) -> Result<BTreeSet<u32>, AllocError>
+    ensures { IfOk result (λ set. keys set ≡ with_numbers [] numbers.now) }
+{
+    let mut set = BTreeSet::new(alloc);
+    for number in numbers {
+        set.insert(*number)?;
+    }
+    Ok(set)
+}
+
+/// Returns whether an entry with this limit, if it has one, is used up before a result before which the entries with the
+/// numbers in `spent` are used up.
+fn is_spent(limit: Option<Limit>, spent: &BTreeSet<u32>) -> bool
+    ensures { (r : Found) → keys spent.now ≡ with_numbers [] r.spent
+        → result ≡ is_used_up limit r }
+{
+    match limit {
+        Some(limit) => spent.contains(&limit.number),
+        None => false,
+    }
+}
+
+/// A result, and the numbers of the entries that are used up before it.
+#[derive(Clone, Copy)]
+struct Given<'r> {
+    record: &'r Record,
+    spent: &'r BTreeSet<u32>,
+    ghost are_spent: { keys spent.now ≡ with_numbers [] «record».now.spent },
+}
 
 /// Adds the number, if there is such an entry and it matches the result.
 fn add_if_matching(
     found: &mut BTreeSet<u32>,
     entries: &[Entry],
     today: Option<u32>,
-    record: &Record,
+    given: Given<'_>,
     number: u32,
 ) -> Result<(), AllocError>
     ensures { OnOk result (keys found.new
-        ≡ (if passes_at (λ e. matches today e «record».now) entries.now number
+        ≡ (if passes_at (λ e. matches today e given.entry.«record».now) entries.now number
         then insert_key nat_cmp (keys found.old) number else keys found.old)) }
 {
     if let Some(entry) = entries.get(number as usize) {
-        if entry.matches(today, record) {
+        if !is_spent(entry.limit, given.spent) && entry.is_met(today, given.record) {
             found.insert(number)?;
         }
     }
@@ -38,14 +70,15 @@ fn add_matching(
     found: &mut BTreeSet<u32>,
     entries: &[Entry],
     today: Option<u32>,
-    record: &Record,
+    given: Given<'_>,
     numbers: &[u32],
 ) -> Result<(), AllocError>
     ensures { OnOk result (keys found.new ≡ with_numbers (keys found.old)
-        (filter (passes_at (λ e. matches today e «record».now) entries.now) numbers.now)) }
+        (filter (passes_at (λ e. matches today e given.entry.«record».now) entries.now)
+        numbers.now)) }
 {
     for number in numbers {
-        add_if_matching(found, entries, today, record, *number)?;
+        add_if_matching(found, entries, today, given, *number)?;
     }
     Ok(())
 }
@@ -61,8 +94,13 @@ pub(crate) fn select(
     ensures { IfOk result (λ found. found ≡ with_numbers []
         (filter (passes_at (λ e. matches today e «record».now) entries.now) numbers.now)) }
 {
+    let spent = set_of(alloc, record.spent.as_slice())?;
+    let given = Given {
+        record,
+        spent: &spent,
+    };
     let mut found = BTreeSet::new(alloc);
-    add_matching(&mut found, entries, today, record, numbers)?;
+    add_matching(&mut found, entries, today, given, numbers)?;
     let rising = rising(alloc, &found)?;
     sequence_of(alloc, &rising)
 }

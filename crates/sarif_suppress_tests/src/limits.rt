@@ -15,7 +15,7 @@ fn side_of(alloc: Global, rules: &Plain, left: &mut Left, uri: &str) -> Result<c
     Ok(if applied.suppressed { 's' } else { 'a' })
 }
 
-/// One letter for each of these results, one after another.
+/// Returns one letter for each of these results, in order.
 fn sides_by(alloc: Global, rules: &Plain, uris: &[&str]) -> Result<String, AllocError> {
     let mut left = rules.left(alloc)?;
     let mut sides = String::new(alloc);

@@ -1,6 +1,6 @@
 -- Under which condition an entry is filed: the most specific one. So a result is compared only with entries that may
 -- match it.
-use Rattle.std.specs.Prelude.{ℕ, Bool, false, not, ◌&&◌, List, [], ◌∷◌, ◌++◌, Option, Some, None, option_and_then, option_map, is_none, is_some, nat_eq, bytes_eq, slice_get, if◌then◌else◌}
+use Rattle.std.specs.Prelude.{ℕ, Bool, false, not, ◌&&◌, List, [], ◌∷◌, ◌++◌, Option, Some, None, option_and_then, option_map, is_none, is_some, map, nat_eq, bytes_eq, slice_get, if◌then◌else◌}
 use Rattle.std.specs.Cmp.Lexicographic.{pointwise}
 use Rattle.std.specs.Option.{option_map_or}
 use Rattle.sarif_evidence.specs.Seen.{packed}
@@ -89,23 +89,34 @@ head_of cs =
     if is_some (text_in kinds.Message cs) then text_in kinds.Message cs
     else text_in kinds.MessageId cs
 
--- the key of a snippet and of a URI, if there is one
-abbrev pub key_with : List ℕ → Option (List ℕ) → List (List ℕ)
-key_with snippet uri = packed snippet ∷ listed uri
-
--- the named snippet, with the named URI, if it is the most specific condition
-abbrev pub snippet_key : List Condition → Option (List (List ℕ))
-snippet_key cs =
-    if is_none (guid_in cs)
-    then option_map (λ text. key_with text (text_in kinds.Uri cs)) (text_in kinds.Snippet cs)
-    else None
-
--- the key of the named snippet, or of the named parts of the message, with the named URI, if it is the most specific condition
+-- the key of what is named of the message, with the named URI, if it is the most specific condition
 abbrev pub message_key : List Condition → Option (List (List ℕ))
 message_key cs =
-    if is_some (snippet_key cs) then snippet_key cs
-    else (if is_unmarked cs && not (has_no_message cs)
-    then Some (key_of (text_in kinds.Uri cs) (head_of cs) (args_in cs)) else None)
+    if is_unmarked cs && not (has_no_message cs)
+    then Some (key_of (text_in kinds.Uri cs) (head_of cs) (args_in cs)) else None
+
+-- the named snippet without white space, if it is the most specific condition
+abbrev pub snippet_key : List Condition → Option (List ℕ)
+snippet_key cs =
+    if is_none (guid_in cs) then option_map packed (text_in kinds.Snippet cs) else None
+
+-- the key of a fingerprint and of a URI, if there is one
+abbrev pub key_of_pair : Option (List ℕ) → List ℕ × List ℕ → List (List ℕ)
+key_of_pair uri pair = key_of uri (Some pair.0) (pair.1 ∷ [])
+
+-- the first named fingerprint, otherwise the first named partial fingerprint
+abbrev pub first_pair : List Condition → Option (List ℕ × List ℕ)
+first_pair cs =
+    if is_empty (pairs_in kinds.Fingerprints cs)
+    then slice_get (pairs_in kinds.PartialFingerprints cs) 0
+    else slice_get (pairs_in kinds.Fingerprints cs) 0
+
+-- the key of an entry among those of its snippet: that of its first fingerprint, otherwise that of what it names of the
+-- message, each with the named URI. It may be empty
+abbrev pub key_beside : List Condition → List (List ℕ)
+key_beside cs =
+    option_map_or (key_of_pair (text_in kinds.Uri cs)) (first_pair cs)
+    (key_of (text_in kinds.Uri cs) (head_of cs) (args_in cs))
 
 -- a result's keys for its text or its id: without its arguments and, if it has some, with them
 abbrev pub keys_under : Option (List ℕ) → Option (List ℕ) → List (List ℕ) → List (List (List ℕ))
@@ -119,17 +130,25 @@ keys_at uri m =
     ++ (if is_some m.id then keys_under uri m.id m.args else []))
     ++ (if is_empty m.args then [] else key_of uri None m.args ∷ [])
 
--- a result's keys for its snippet: without its URI and, if it has one, with it
-abbrev pub keys_with : List ℕ → Option (List ℕ) → List (List (List ℕ))
-keys_with snippet uri =
-    key_with snippet None ∷ (if is_some uri then key_with snippet uri ∷ [] else [])
-
--- a result's keys for its message: without its URI and, if it has one, with it; and those for its snippet, if it has
--- one
+-- a result's keys for its message: without its URI and, if it has one, with it
 abbrev pub message_keys : Record → List (List (List ℕ))
 message_keys r =
-    (keys_at None r.message ++ (if is_some r.place.uri then keys_at r.place.uri r.message else []))
-    ++ option_map_or (λ snippet. keys_with snippet r.place.uri) r.snippet []
+    keys_at None r.message ++ (if is_some r.place.uri then keys_at r.place.uri r.message else [])
+
+-- the keys for a URI without a message: the empty key and, if there is a URI, its own
+abbrev pub keys_of_uri : Option (List ℕ) → List (List (List ℕ))
+keys_of_uri uri = key_of None None [] ∷ (if is_some uri then key_of uri None [] ∷ [] else [])
+
+-- the keys of fingerprints: without a URI and, if there is one, with it
+abbrev pub keys_of_pairs : Option (List ℕ) → List (List ℕ × List ℕ) → List (List (List ℕ))
+keys_of_pairs uri pairs =
+    map (key_of_pair None) pairs ++ (if is_some uri then map (key_of_pair uri) pairs else [])
+
+-- a result's keys among the entries of its snippet: for its message, its URI and its fingerprints
+abbrev pub keys_beside : Record → List (List (List ℕ))
+keys_beside r =
+    ((message_keys r ++ keys_of_uri r.place.uri) ++ keys_of_pairs r.place.uri r.full)
+    ++ keys_of_pairs r.place.uri r.partial
 
 -- the entry names neither a message nor a URI
 abbrev pub has_no_message_or_uri : List Condition → Bool
@@ -160,9 +179,15 @@ prefix_key cs =
 abbrev pub has_no_key : List Condition → Bool
 has_no_key cs = is_unmarked cs && (has_tool_alone cs && is_none (text_in kinds.Tool cs))
 
--- the entry is filed under that GUID, that pair of strings, that key of a message, that string, or not at all
+-- the entry is filed under that GUID, that snippet and key, that pair of strings, that key of a message, that string, or
+-- not at all
 abbrev pub asks_for_guid : ℕ → Entry → Bool
 asks_for_guid guid e = option_map_or (λ own. nat_eq own guid) (guid_in e.conditions) false
+
+abbrev pub asks_for_snippet : List ℕ → List (List ℕ) → Entry → Bool
+asks_for_snippet snippet key e =
+    option_map_or (λ own. bytes_eq own snippet) (snippet_key e.conditions) false
+    && pointwise bytes_eq (key_beside e.conditions) key
 
 abbrev pub asks_for_pair : PairCondition → List ℕ × List ℕ → Entry → Bool
 asks_for_pair which pair e =

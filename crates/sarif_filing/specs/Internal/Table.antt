@@ -10,9 +10,11 @@ use Rattle.sarif_entries.specs.declared.filing.TextCondition.TheVariants.{Uri, R
 use Rattle.sarif_filing.specs.declared.table.PairTables.{PairTables}
 use Rattle.sarif_filing.specs.declared.table.Table.{Table}
 use Rattle.sarif_filing.specs.declared.table.TextTables.{TextTables}
-use Rattle.sarif_entries.specs.Internal.Filing.{asks_for_guid, asks_for_pair, asks_for_message, asks_for_text, asks_for_none, message_keys}
+use Rattle.sarif_entries.specs.Internal.Filing.{asks_for_guid, asks_for_snippet, asks_for_pair, asks_for_message, asks_for_text, asks_for_none, message_keys, keys_beside}
 use Rattle.sarif_entries.specs.Condition.{is_pair}
+use Rattle.sarif_evidence.specs.Seen.{packed}
 use Rattle.sarif_filing.specs.Numbers.{numbers_from, numbers_at}
+use Rattle.sarif_filing.specs.Internal.Snippets.{numbers_within}
 
 -- each table has exactly the entries that are filed under a pair of strings of its kind
 pub record ArePairTables {S H : Type 0} (entries : List Entry) (tables : PairTables S H)
@@ -40,19 +42,28 @@ pub record AreTextTables {S H : Type 0} (entries : List Entry) (tables : TextTab
 pub record IsTable {S H : Type 0} (entries : List Entry) (table : Table S H) : Type 0 where
   pub guids : (guid : ℕ)
       → numbers_at nat_eq table.guids guid ≡ numbers_from (asks_for_guid guid) 0 entries
+  pub snippets : (snippet : List ℕ) (key : List (List ℕ))
+      → numbers_within table.snippets snippet key
+      ≡ numbers_from (asks_for_snippet snippet key) 0 entries
   pub pairs : ArePairTables entries table.pairs
   pub texts : AreTextTables entries table.texts
   pub rest : table.others.items ≡ numbers_from asks_for_none 0 entries
+
+-- the numbers of the entries that are filed under that snippet and one of these keys
+abbrev pub under_snippet : List Entry → List ℕ → List (List (List ℕ)) → List ℕ
+under_snippet es snippet keys =
+    flat_map (λ key. numbers_from (asks_for_snippet snippet key) 0 es) keys
 
 -- the numbers of the entries that are filed under values of a result, except prefixes, and of the entries that are
 -- not filed
 abbrev pub candidates : List Entry → Record → List ℕ
 candidates es r =
     option_map_or (λ guid. numbers_from (asks_for_guid guid) 0 es) r.guid []
+    ++ (option_map_or (λ text. under_snippet es (packed text) (keys_beside r)) r.snippet []
     ++ (flat_map (λ pair. numbers_from (asks_for_pair Full pair) 0 es) r.full
     ++ (flat_map (λ pair. numbers_from (asks_for_pair Partial pair) 0 es) r.partial
     ++ (flat_map (λ key. numbers_from (asks_for_message key) 0 es) (message_keys r)
     ++ (option_map_or (λ uri. numbers_from (asks_for_text Uri uri) 0 es) r.place.uri []
     ++ (numbers_from (asks_for_text RuleId r.rule_id) 0 es
     ++ (numbers_from (asks_for_text Tool r.tool) 0 es
-    ++ numbers_from asks_for_none 0 es))))))
+    ++ numbers_from asks_for_none 0 es)))))))

@@ -10,7 +10,7 @@ use Rattle.sarif_suppress.specs.Limited.{met_by}
 abbrev pub left_for : Option ℕ → List Record → Entry → Option ℕ
 left_for today before e = option_map (λ limit. limit.most - met_by today e before) e.limit
 
--- the same for each entry
+-- how many more results each entry matches after these, in order
 abbrev pub left_after : File → List Record → List (Option ℕ)
 left_after file before = map (left_for file.today before) file.entries
 
