@@ -36,7 +36,8 @@ ghost use Rattle.sarif_accept.specs.Until.{HasGuid, IsDated, IsUntil};
 pub fn an_entry_accepts_its_result()
     ensures read { (r : Record) (reason : Option (List ℕ)) (today until : Option ℕ) (n : ℕ)
         → HasGuid r → IsDated today until
-        → entry_of (version_for r) today n (entry_for r reason until) ≡ Ok (entry_read r reason until) }
+        → entry_of (version_for r) today n (entry_for r reason until)
+        ≡ Ok (entry_read r reason until) }
     ensures alone { (r : Record) (reason : Option (List ℕ)) (today until : Option ℕ) (ms : Members)
         → HasGuid r → IsDated today until
         → file_of_value today (file_with (version_for r) (entry_for r reason until ∷ []) ms)

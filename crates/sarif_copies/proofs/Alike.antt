@@ -19,7 +19,7 @@ and_false true = refl
 and_false false = refl
 
 -- a result without a line is alike to none
-not_alike : (q r : Record) → has_line r ≡ false → are_alike q r ≡ false
+pub not_alike : (q r : Record) → has_line r ≡ false → are_alike q r ≡ false
 not_alike q r none = ap (λ b. has_line q && (b && record_eq q r)) none ∙ and_false (has_line q)
 
 none_alike : (r : Record) (n : ℕ) (before : List Record) → has_line r ≡ false → first_alike r n before ≡ None

@@ -1,6 +1,7 @@
 -- Which results are copies: they have a URI and a region, and are equal in each field to an earlier result. The first
 -- of the results that are alike is the finding of each.
 use Rattle.std.specs.Prelude.{◌==◌, ◌+◌, ℕ, Bool, true, false, ◌&&◌, not, List, [], ◌∷◌, ◌++◌, map, slice_index_or, length, Option, Some, None, if◌then◌else◌, is_some, unwrap_or, bytes_eq}
+use Rattle.std.specs.List.{list_any}
 use Rattle.std.specs.Option.{option_eq}
 use Rattle.std.specs.Cmp.Lexicographic.{pointwise}
 use Rattle.sarif_model.specs.declared.kinds.Status.{Status}
@@ -58,6 +59,16 @@ findings_after before (r ∷ rs) = finding_of before r ∷ findings_after (befor
 -- for each result the number of its finding
 abbrev pub findings_of : List Record → List ℕ
 findings_of rs = findings_after [] rs
+
+-- ---- results of two lists
+
+-- the result, regardless of the entries of a suppression file that are used up before it
+abbrev pub unspent : Record → Record
+unspent r = record r { spent = [] }
+
+-- whether one of these results is alike to r, regardless of such entries
+abbrev pub has_alike : List Record → Record → Bool
+has_alike rs r = list_any (λ q. are_alike (unspent q) (unspent r)) rs
 
 -- ---- findings and copies apart
 

@@ -14,7 +14,7 @@ use std::alloc::{AllocError, Global};
 use std::hash::BuildHasher;
 
 /// Whether a result has a URI and a region.
-fn has_line(found: &Record) -> bool
+pub(crate) fn has_line(found: &Record) -> bool
     ensures { result ≡ has_line found.now }
 {
     found.place.uri.is_some() && found.region.is_some()
@@ -22,8 +22,8 @@ fn has_line(found: &Record) -> bool
 
 /// The number that the table has for this key. If it has none, it has `number` from now on.
 fn number_for<'a, S: BuildHasher + Copy>(
-    table: &mut IndexMap<WholeRecord<'a>, u32, S>,
-    key: WholeRecord<'a>,
+    table: &mut IndexMap<WholeRecord<'a, 'a>, u32, S>,
+    key: WholeRecord<'a, 'a>,
     number: u32,
 ) -> Result<u32, AllocError>
     ensures first { IfOk result
@@ -41,7 +41,7 @@ fn number_for<'a, S: BuildHasher + Copy>(
 /// The number of the first result that is alike to this one, which is its own `number` if it is the first. The table has
 /// the results before it, and then this one too.
 fn add_result<'a, S: BuildHasher + Copy>(
-    table: &mut IndexMap<WholeRecord<'a>, u32, S>,
+    table: &mut IndexMap<WholeRecord<'a, 'a>, u32, S>,
     found: &'a Record,
     number: u32,
 ) -> Result<u32, AllocError>

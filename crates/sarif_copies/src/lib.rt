@@ -4,6 +4,7 @@
 mod apart;
 mod firsts;
 mod laws;
+mod others;
 mod whole_record;
 
 pub use apart::{Apart, set_apart};
@@ -12,3 +13,4 @@ pub use laws::{
     findings_are_their_own, records_are_equal_where_their_fields_are,
     results_have_one_finding_where_they_are_alike,
 };
+pub use others::list_alike;

@@ -1,12 +1,12 @@
 //! All fields of a record, as a key of a table.
 ghost use Rattle.std.specs.Prelude.{◌≡◌};
-ghost use Rattle.sarif_copies.specs.Internal.Table.{fields_of};
+ghost use Rattle.sarif_copies.specs.Internal.Table.{fields_of, with_numbers};
 
 use sarif_model::{Kind, Level, Message, Pairs, Place, Record, Region, Sequence, Status, Text};
 
 /// All fields of a record, borrowed from it. Two are equal if each field is.
 #[derive(Clone, Copy, PartialEq, Eq, Hash)]
-pub(crate) struct WholeRecord<'a> {
+pub(crate) struct WholeRecord<'a, 's> {
     tool: &'a Text,
     rule_id: &'a Text,
     kind: Kind,
@@ -19,12 +19,15 @@ pub(crate) struct WholeRecord<'a> {
     held: &'a Sequence<Status>,
     region: Option<Region>,
     snippet: &'a Option<Text>,
-    spent: &'a Sequence<u32>,
+    spent: &'s Sequence<u32>,
 }
 
-/// The fields of a record.
-pub(crate) fn whole_record(found: &Record) -> WholeRecord<'_>
-    ensures { fields_of result ≡ found.now }
+/// The fields of a record, but with the numbers `spent`.
+pub(crate) fn record_with<'a, 's>(
+    found: &'a Record,
+    spent: &'s Sequence<u32>,
+) -> WholeRecord<'a, 's>
+    ensures { fields_of result ≡ with_numbers found.now spent.now }
 {
     WholeRecord {
         tool: &found.tool,
@@ -39,6 +42,13 @@ pub(crate) fn whole_record(found: &Record) -> WholeRecord<'_>
         held: &found.held,
         region: found.region,
         snippet: &found.snippet,
-        spent: &found.spent,
+        spent,
     }
+}
+
+/// The fields of a record.
+pub(crate) fn whole_record<'a>(found: &'a Record) -> WholeRecord<'a, 'a>
+    ensures { fields_of result ≡ found.now }
+{
+    record_with(found, &found.spent)
 }

@@ -12,7 +12,7 @@ use Rattle.sarif_runs.specs.Placed.{Placed}
 use Rattle.sarif_inputs.specs.Internal.Allowing.{IsReadAlike, allowing, checks_allowing}
 use Rattle.sarif_inputs.specs.Faults.{faults_of, file_faults, number_faults}
 use Rattle.sarif_entries.specs.Given.{file_or_none}
-use Rattle.sarif_inputs.specs.Inputs.{Inputs, all_sources, baseline_runs, input_runs, numbered, placed, placed_from, readable, run_options}
+use Rattle.sarif_inputs.specs.Inputs.{Inputs, all_sources, baseline_runs, input_runs, numbered, placed, placed_from, readable, reading_checks, run_options}
 use Rattle.sarif_inputs.specs.SourceFaults.{limit_faults, reading_faults, source_faults}
 use Rattle.sarif_inputs.proofs.SourceSteps.{faults_append}
 
@@ -53,23 +53,23 @@ module _ (checks : Checks) where
       ++ faults_alike name (n + 1) (runs + length (readable (alike.0 i))) (results + results_total (readable (alike.0 i))) rest alike.1 i
 
 pub current_alike : (inputs : Inputs) → AllByRecursion IsReadAlike inputs.logs → input_runs (allowing true inputs) ≡ input_runs (allowing false inputs)
-current_alike inputs alike = runs_alike inputs.checks Log 0 inputs.logs alike
+current_alike inputs alike = runs_alike (reading_checks inputs) Log 0 inputs.logs alike
 
 pub baseline_alike : (inputs : Inputs) → AllByRecursion IsReadAlike inputs.baselines
     → baseline_runs (allowing true inputs) ≡ baseline_runs (allowing false inputs)
-baseline_alike inputs alike = runs_alike inputs.checks Baseline 0 inputs.baselines alike
+baseline_alike inputs alike = runs_alike (reading_checks inputs) Baseline 0 inputs.baselines alike
 
 sources_alike : (inputs : Inputs) → AllByRecursion IsReadAlike inputs.logs → AllByRecursion IsReadAlike inputs.baselines
     → source_faults 0 0 (all_sources (allowing true inputs)) ≡ source_faults 0 0 (all_sources (allowing false inputs))
 sources_alike inputs logs baselines =
-    let with_f = checks_allowing true inputs.checks in
-    let without_f = checks_allowing false inputs.checks in
+    let with_f = checks_allowing true (reading_checks inputs) in
+    let without_f = checks_allowing false (reading_checks inputs) in
     let current = current_alike inputs logs in
     faults_append 0 0 (numbered with_f Log 0 inputs.logs) (numbered with_f Baseline 0 inputs.baselines)
     ∙ ap₂ (λ here later. here ++ later)
-    (faults_alike inputs.checks Log 0 0 0 inputs.logs logs)
+    (faults_alike (reading_checks inputs) Log 0 0 0 inputs.logs logs)
     (ap (λ (ps : List Placed). source_faults (0 + length ps) (0 + results_total (run_values ps)) (numbered with_f Baseline 0 inputs.baselines)) current
-    ∙ faults_alike inputs.checks Baseline 0 _ _ inputs.baselines baselines)
+    ∙ faults_alike (reading_checks inputs) Baseline 0 _ _ inputs.baselines baselines)
     ∙ sym (faults_append 0 0 (numbered without_f Log 0 inputs.logs) (numbered without_f Baseline 0 inputs.baselines))
 
 pub all_alike : (inputs : Inputs) → AllByRecursion IsReadAlike inputs.logs → AllByRecursion IsReadAlike inputs.baselines

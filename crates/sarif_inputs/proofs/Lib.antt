@@ -2,6 +2,7 @@ pub mod AllowedAlike
 pub mod FileAnswers
 pub mod IndexedTexts
 pub mod OpenedParts
+pub mod ReadAgain
 pub mod ReadFacts
 pub mod ReadIndexes
 pub mod ReadParts

@@ -14,13 +14,19 @@ use Rattle.sarif_model.specs.declared.merge_fault.Source.{Source}
 use Rattle.sarif_model.specs.declared.merge_fault.Source.TheVariants.{Log, Baseline, Suppress, Output, Known}
 
 -- the bytes of the logs, of the baselines and of the suppression file, if there is one; today's date, if it is known;
--- and what is required of runs
+-- what is required of runs; and whether records have regions and snippets because entries compare snippets
 pub record Inputs : Type 0 where
   pub logs : List (List ℕ)
   pub baselines : List (List ℕ)
   pub suppressions : Option (List ℕ)
   pub today : Option ℕ
   pub checks : Checks
+  pub snippets : Bool
+
+-- how runs are read: entries that compare snippets need what a merge needs that doesn't count copies
+abbrev pub reading_checks : Inputs → Checks
+reading_checks inputs =
+    record inputs.checks { once = inputs.snippets || inputs.checks.once }
 
 -- a source with its bytes, and what is required of its runs
 pub record Sourced : Type 0 where
@@ -35,10 +41,10 @@ numbered checks name n (bytes ∷ rest) =
     record { source = name n; bytes = bytes; checks = checks } ∷ numbered checks name (n + 1) rest
 
 abbrev pub log_sources : Inputs → List Sourced
-log_sources inputs = numbered inputs.checks Log 0 inputs.logs
+log_sources inputs = numbered (reading_checks inputs) Log 0 inputs.logs
 
 abbrev pub baseline_sources : Inputs → List Sourced
-baseline_sources inputs = numbered inputs.checks Baseline 0 inputs.baselines
+baseline_sources inputs = numbered (reading_checks inputs) Baseline 0 inputs.baselines
 
 -- the logs, and then the baselines
 abbrev pub all_sources : Inputs → List Sourced

@@ -1,4 +1,5 @@
 pub mod Faults
 pub mod Inputs
 pub mod Internal
+pub mod Snippets
 pub mod SourceFaults

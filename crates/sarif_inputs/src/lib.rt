@@ -7,10 +7,12 @@ mod laws;
 mod opening;
 mod read_run;
 mod reading;
+mod snippets;
 mod sources;
 mod suppression_file;
 
 pub use indexes::index_sources;
 pub use laws::allowing_external_files_changes_nothing_without_them;
+pub use snippets::read_snippets;
 pub use sources::{Opening, Runs, check_numbers, open_sources};
 pub use suppression_file::read_file;

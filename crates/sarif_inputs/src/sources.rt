@@ -234,7 +234,8 @@ impl<'t, 'a> ReadSoFar<'t, 'a> {
         ensures results { (bytes : List ℕ)
             → IsParsedFrom checks.now.allow_external bytes parsed.entry
             → OnOk result (self.new.results
-            ≡ self.old.results + results_total (readable (log_of checks.now.allow_external bytes))) }
+            ≡ self.old.results
+            + results_total (readable (log_of checks.now.allow_external bytes))) }
         ensures counted { OnOk result (IsCounted self.new) }
         ensures faults { (bytes : List ℕ)
             → IsParsedFrom checks.now.allow_external bytes parsed.entry
@@ -297,9 +298,11 @@ fn read_all<'t, 'a, R: Threads + Sync>(
     requires indexes { (ls : List (List ℕ)) × (bs : List (List ℕ))
         × AreIndexesOf ls bs indexes.now logs }
     ensures all { (ls bs : List (List ℕ)) → AreIndexesOf ls bs indexes.now logs
-        → IfOk result (λ runs. map placed_read runs.all.items ≡ placed (sources_of checks.now ls bs)) }
+        → IfOk result (λ runs. map placed_read runs.all.items
+        ≡ placed (sources_of checks.now ls bs)) }
     ensures inputs { (ls bs : List (List ℕ)) → AreIndexesOf ls bs indexes.now logs
-        → IfOk result (λ runs. runs.inputs ≡ length (placed (numbered checks.now Source.Log 0 ls))) }
+        → IfOk result (λ runs. runs.inputs
+        ≡ length (placed (numbered checks.now Source.Log 0 ls))) }
     ensures few { IfOk result (λ runs. length runs.all.items ≤ most_runs) }
     ensures few_results { IfOk result
         (λ runs. results_total (run_values (map placed_read runs.all.items)) ≤ most_results) }

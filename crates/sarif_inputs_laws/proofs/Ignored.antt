@@ -13,7 +13,7 @@ use Rattle.sarif_runs.specs.Judging.{faults_of_runs, records_of}
 use Rattle.sarif_runs_laws.specs.Ignoring.{run_without, without_ignored}
 use Rattle.sarif_runs_laws.proofs.Runs.{as_many_results, read_without}
 use Rattle.sarif_inputs.specs.Faults.{faults_of}
-use Rattle.sarif_inputs.specs.Inputs.{Inputs, Sourced, baseline_runs, input_runs, looks_at_regions, must_succeed, numbered, placed, placed_from, readable, runs_in}
+use Rattle.sarif_inputs.specs.Inputs.{Inputs, Sourced, baseline_runs, input_runs, looks_at_regions, must_succeed, numbered, placed, placed_from, readable, reading_checks, runs_in}
 use Rattle.sarif_inputs.specs.SourceFaults.{limit_faults, reading_faults, source_faults}
 use Rattle.sarif_inputs_laws.specs.Ignoring.{AreReadWithout, HasSameRecords, IsReadWithout, ignoring_none}
 use Rattle.sarif_inputs_laws.specs.Parts.{baseline_in, current_in}
@@ -112,7 +112,7 @@ module _ (checks : Checks) where
 pub ignored_missing : (inputs : Inputs) (logs baselines : List (List ℕ)) → faults_of inputs ≡ [] → AreReadWithout inputs inputs.logs logs
     → AreReadWithout inputs inputs.baselines baselines → HasSameRecords inputs (ignoring_none inputs logs baselines)
 ignored_missing inputs logs baselines none same older =
-    let checks = inputs.checks in
+    let checks = reading_checks inputs in
     let fine = apart_faults inputs none in
     let now : input_runs (ignoring_none inputs logs baselines) ≡ map without_ignored (input_runs inputs) =
     placed_without checks Log (λ n. refl) 0 inputs.logs logs same in

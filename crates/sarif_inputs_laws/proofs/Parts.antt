@@ -14,7 +14,7 @@ use Rattle.sarif_suppress.specs.Suppressing.{is_unused}
 use Rattle.sarif_runs.specs.Judging.{faults_of_runs, records_of, run_values, skips}
 use Rattle.sarif_runs.specs.Placed.{Placed}
 use Rattle.sarif_inputs.specs.Faults.{faults_of, file_faults, number_faults}
-use Rattle.sarif_inputs.specs.Inputs.{Inputs, Sourced, baseline_runs, input_runs, must_succeed, numbered, placed}
+use Rattle.sarif_inputs.specs.Inputs.{Inputs, Sourced, baseline_runs, input_runs, must_succeed, numbered, placed, reading_checks}
 use Rattle.sarif_inputs.specs.SourceFaults.{source_faults}
 use Rattle.sarif_inputs_laws.specs.Parts.{HasParts, IsMatchedAs, baseline_in, current_in, with_sources}
 use Rattle.sarif_inputs_laws.proofs.Renumbered.{both_empty, faults-append, none_both, placed-append, placed_alike, records-append, records_alike, runs_faultless, values_alike}
@@ -58,14 +58,14 @@ module _ (checks : Checks) (name : ℕ → Source) (skip : (m n : ℕ) → skips
 pub record IsFaultless (inputs : Inputs) : Type 0 where
   pub logs : number_faults Log inputs.logs ≡ []
   pub baselines : number_faults Baseline inputs.baselines ≡ []
-  pub sources : source_faults 0 0 (numbered inputs.checks Log 0 inputs.logs ++ numbered inputs.checks Baseline 0 inputs.baselines) ≡ []
+  pub sources : source_faults 0 0 (numbered (reading_checks inputs) Log 0 inputs.logs ++ numbered (reading_checks inputs) Baseline 0 inputs.baselines) ≡ []
   pub file : file_faults (file_or_none inputs.suppressions inputs.today) ≡ []
   pub log_runs : faults_of_runs (input_runs inputs) ≡ []
   pub older_runs : faults_of_runs (baseline_runs inputs) ≡ []
 
 pub apart_faults : (inputs : Inputs) → faults_of inputs ≡ [] → IsFaultless inputs
 apart_faults inputs none =
-    let sources = numbered inputs.checks Log 0 inputs.logs ++ numbered inputs.checks Baseline 0 inputs.baselines in
+    let sources = numbered (reading_checks inputs) Log 0 inputs.logs ++ numbered (reading_checks inputs) Baseline 0 inputs.baselines in
     let file = file_faults (file_or_none inputs.suppressions inputs.today) in
     let runs = faults_of_runs (input_runs inputs ++ baseline_runs inputs) in
     let one = both_empty (number_faults Log inputs.logs) (number_faults Baseline inputs.baselines ++ (source_faults 0 0 sources ++ (file ++ runs))) none in
@@ -78,7 +78,7 @@ apart_faults inputs none =
 
 pub all_faults : (inputs : Inputs) → IsFaultless inputs → faults_of inputs ≡ []
 all_faults inputs none =
-    let sources = numbered inputs.checks Log 0 inputs.logs ++ numbered inputs.checks Baseline 0 inputs.baselines in
+    let sources = numbered (reading_checks inputs) Log 0 inputs.logs ++ numbered (reading_checks inputs) Baseline 0 inputs.baselines in
     let file = file_faults (file_or_none inputs.suppressions inputs.today) in
     let runs = faults_of_runs (input_runs inputs ++ baseline_runs inputs) in
     none_both (number_faults Log inputs.logs) (number_faults Baseline inputs.baselines ++ (source_faults 0 0 sources ++ (file ++ runs))) none.logs
@@ -148,10 +148,10 @@ module _ (inputs : Inputs) (logs more baselines others : List (List ℕ)) where
   both = with_sources inputs (logs ++ more) (baselines ++ others)
 
   current_both : current_in both ≡ current_in one ++ current_in other
-  current_both = records_both inputs.checks Log (λ m n. refl) (λ m n. refl) logs more
+  current_both = records_both (reading_checks inputs) Log (λ m n. refl) (λ m n. refl) logs more
 
   baseline_both : baseline_in both ≡ baseline_in one ++ baseline_in other
-  baseline_both = records_both inputs.checks Baseline (λ m n. refl) (λ m n. refl) baselines others
+  baseline_both = records_both (reading_checks inputs) Baseline (λ m n. refl) (λ m n. refl) baselines others
 
   few : (xs ys : List (List ℕ)) → (length xs ≤ length (xs ++ ys)) × (length ys ≤ length (xs ++ ys))
   few xs ys = let long = length-append xs ys in (omega (arith, long), omega (arith, long))
@@ -161,16 +161,16 @@ module _ (inputs : Inputs) (logs more baselines others : List (List ℕ)) where
     faultless = apart_faults both none
 
     log_parts : (faults_of_runs (input_runs one) ≡ []) × (faults_of_runs (input_runs other) ≡ [])
-    log_parts = faultless_both inputs.checks Log (λ m n. refl) (λ m n. refl) logs more faultless.log_runs
+    log_parts = faultless_both (reading_checks inputs) Log (λ m n. refl) (λ m n. refl) logs more faultless.log_runs
 
     older_parts : (faults_of_runs (baseline_runs one) ≡ []) × (faults_of_runs (baseline_runs other) ≡ [])
-    older_parts = faultless_both inputs.checks Baseline (λ m n. refl) (λ m n. refl) baselines others faultless.older_runs
+    older_parts = faultless_both (reading_checks inputs) Baseline (λ m n. refl) (λ m n. refl) baselines others faultless.older_runs
 
     first_accepted : faults_of one ≡ []
     first_accepted = all_faults one (record {
       logs = fewer_sources Log (logs ++ more) logs (few logs more).0 faultless.logs;
       baselines = fewer_sources Baseline (baselines ++ others) baselines (few baselines others).0 faultless.baselines;
-      sources = first_sources inputs.checks logs more baselines others faultless.sources;
+      sources = first_sources (reading_checks inputs) logs more baselines others faultless.sources;
       file = faultless.file;
       log_runs = log_parts.0;
       older_runs = older_parts.0;
@@ -180,7 +180,7 @@ module _ (inputs : Inputs) (logs more baselines others : List (List ℕ)) where
     second_accepted = all_faults other (record {
       logs = fewer_sources Log (logs ++ more) more (few logs more).1 faultless.logs;
       baselines = fewer_sources Baseline (baselines ++ others) others (few baselines others).1 faultless.baselines;
-      sources = second_sources inputs.checks logs more baselines others faultless.sources;
+      sources = second_sources (reading_checks inputs) logs more baselines others faultless.sources;
       file = faultless.file;
       log_runs = log_parts.1;
       older_runs = older_parts.1;
@@ -190,8 +190,8 @@ module _ (inputs : Inputs) (logs more baselines others : List (List ℕ)) where
     accepted_parts = record {
       first_faultless = first_accepted;
       second_faultless = second_accepted;
-      logs = values_both inputs.checks Log (λ m n. refl) (λ m n. refl) logs more;
-      baselines = values_both inputs.checks Baseline (λ m n. refl) (λ m n. refl) baselines others;
+      logs = values_both (reading_checks inputs) Log (λ m n. refl) (λ m n. refl) logs more;
+      baselines = values_both (reading_checks inputs) Baseline (λ m n. refl) (λ m n. refl) baselines others;
       current = current_both;
       baseline = baseline_both;
       unused = λ given today file n e is at.

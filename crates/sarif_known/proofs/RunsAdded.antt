@@ -1,16 +1,33 @@
 -- Runs and the log, from their parts.
-use Rattle.std.proofs.Common.{◌≡◌, ◌==◌, false, length, ℕ, List, [], ◌∷◌, ◌++◌, map, Some, codes, refl, sym, ap, ◌∙◌, append_assoc}
+use Rattle.std.proofs.Common.{◌≡◌, ◌==◌, false, length, ℕ, Bool, List, [], ◌∷◌, ◌++◌, map, Some, codes, refl, sym, ap, ◌∙◌, append_assoc}
+use Rattle.std.specs.Borrow.{Bor}
 use Rattle.json.specs.Layout.{pretty}
 use Rattle.json.specs.Token.{Token, begin_array, begin_object, end_array, key}
 use Rattle.sarif_model.specs.declared.merge_fault.MergeFault.{MergeFault}
 use Rattle.sarif_model.specs.declared.record.Record.{Record}
-use Rattle.sarif_known.specs.Chosen.{Chosen}
+use Rattle.sarif_known.specs.Chosen.{Chosen, known_as}
 use Rattle.sarif_known.specs.KnownLog.{known_log, pretty_text, IsLost}
 use Rattle.sarif_model.specs.Written.{list_if_any}
 use Rattle.sarif_known.specs.KnownRun.{artifact_at, base_alone, bases_alone, known_run, results_from, with_some}
 use Rattle.sarif_known.specs.Internal.Tokens.{data_tokens, each_tokens, log_closing, log_opening, run_closing, run_opening, value_tokens}
 use Rattle.sarif_known.proofs.Lost.{part_lost}
 use Rattle.sarif_known.proofs.TokensOf.{three, four, list_tokens, run_tokens, log_tokens}
+
+-- records as they become known have the bases of the records
+pub bases_as : (regions : Bool) (rs : List Record) → bases_alone (map (known_as regions) rs) ≡ bases_alone rs
+bases_as regions [] = refl
+bases_as regions (r ∷ rs) = ap (with_some (base_alone r)) (bases_as regions rs)
+
+pub opening_as : (regions : Bool) (rs : List Record) → run_opening (map (known_as regions) rs) ≡ run_opening rs
+opening_as regions rs =
+    ap
+    (λ bases. begin_object
+    ∷ (value_tokens (codes "artifacts") (list_if_any (map artifact_at bases)) ++ key (codes "results") ∷ begin_array ∷ []))
+    (bases_as regions rs)
+
+pub each_as : (regions : Bool) (rs : List (Bor Record)) → map (λ r. known_as regions r.now) rs ≡ map (known_as regions) (map (λ r. r.now) rs)
+each_as regions [] = refl
+each_as regions (r ∷ rs) = ap (λ l. known_as regions r.now ∷ l) (each_as regions rs)
 
 -- a run is added by its opening, its results and its closing
 pub run_added : (o o1 o2 o3 : List Token) (run : Chosen) (first again : List Record) → first ≡ run.records → again ≡ run.records

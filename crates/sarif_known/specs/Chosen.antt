@@ -1,5 +1,7 @@
 -- Results of a run.
-use Rattle.std.specs.Prelude.{ℕ, ◌+◌, List, [], ◌∷◌, length, map}
+use Rattle.std.specs.Prelude.{ℕ, ◌+◌, Bool, true, List, [], ◌∷◌, None, length, map, if◌then◌else◌}
+use Rattle.sarif_evidence.specs.declared.version.MatchingVersion.{MatchingVersion}
+use Rattle.sarif_evidence.specs.declared.version.MatchingVersion.TheVariants.{Two, Three}
 use Rattle.sarif_model.specs.declared.record.Record.{Record}
 use Rattle.sarif_known.specs.declared.chosen.KnownRun.{KnownRun}
 
@@ -7,6 +9,24 @@ use Rattle.sarif_known.specs.declared.chosen.KnownRun.{KnownRun}
 pub record Chosen : Type 0 where
   pub tool : List ℕ
   pub records : List Record
+
+-- whether the known log has regions and snippets: if matching reads them or copies aren't counted
+abbrev pub knows_regions : MatchingVersion → Bool → Bool
+knows_regions Two once = once
+knows_regions Three once = true
+
+-- a record as it becomes known: with its region and its snippet if the known log has them
+abbrev pub known_as : Bool → Record → Record
+known_as regions r =
+    record r {
+      region = if regions then r.region else None;
+      snippet = if regions then r.snippet else None;
+    }
+
+-- a run with its records as they become known
+abbrev pub run_as : Bool → Chosen → Chosen
+run_as regions run =
+    record { tool = run.tool; records = map (known_as regions) run.records }
 
 -- how many results these runs have
 abbrev pub results_among : List Chosen → ℕ

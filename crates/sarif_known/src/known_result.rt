@@ -1,6 +1,7 @@
 //! A known result.
 ghost use Rattle.std.specs.Prelude.{◌≡◌, ◌<◌, ◌^◌, ◌++◌, Some, OnOk, codes};
 ghost use Rattle.serde_json.specs.Data.{no_members, member, number, unsigned};
+ghost use Rattle.sarif_known.specs.Chosen.{known_as};
 ghost use Rattle.sarif_known.specs.KnownResult.{known_result, locations_for, members_from, message_rows};
 ghost use Rattle.sarif_known.specs.KnownResult.{object_from, one_location, region_for, result_rows, uri_rows};
 ghost use Rattle.sarif_known.specs.Internal.Tokens.{closed, data_tokens, first_tokens, last_tokens, opened, value_tokens};
@@ -43,58 +44,75 @@ fn open_location(out: &mut Lines) -> Result<(), AllocError>
     Ok(())
 }
 
-/// Closes it again, after the region of this record.
-fn close_location(out: &mut Lines, found: &Record) -> Result<(), AllocError>
-    ensures { OnOk result
-        (out.new ≡ out.old ++ closed (region_for found.now.region found.now.snippet)) }
+/// Closes it again, after the region of this record if regions become known.
+fn close_location(out: &mut Lines, found: &Record, regions: bool) -> Result<(), AllocError>
+    ensures { let written = known_as regions found.now in
+        OnOk result (out.new ≡ out.old ++ closed (region_for written.region written.snippet)) }
 {
     out.token(Token::EndObject)?;
-    push_region_if(out, &found.region, &found.snippet)?;
+    if regions {
+        push_region_if(out, &found.region, &found.snippet)?;
+    }
     out.token(Token::EndObject)?;
     out.token(Token::EndObject)?;
     out.token(Token::EndArray)?;
     Ok(())
 }
 
-/// Adds a place by its URI, and its base next to it if it has one, with the region of this record.
+/// Adds a place by its URI, and its base next to it if it has one, with the region of this record if regions become
+/// known.
 fn push_uri(
     out: &mut Lines,
     uri: &Text,
     base: &Option<Text>,
     found: &Record,
+    regions: bool,
 ) -> Result<(), AllocError>
-    ensures { OnOk result (out.new ≡ out.old ++ value_tokens (codes "locations")
+    ensures { let written = known_as regions found.now in
+        OnOk result (out.new ≡ out.old ++ value_tokens (codes "locations")
         (Some (one_location (members_from (uri_rows uri.now base.now))
-        (region_for found.now.region found.now.snippet)))) }
+        (region_for written.region written.snippet)))) }
 {
     open_location(out)?;
     push_text(out, "uri", uri.as_str())?;
     push_text_if(out, "uriBaseId", base)?;
-    close_location(out, found)?;
+    close_location(out, found, regions)?;
     Ok(())
 }
 
-/// Adds a place by the artifact that has it, with the region of this record.
-fn push_artifact(out: &mut Lines, artifact: u32, found: &Record) -> Result<(), AllocError>
-    ensures { OnOk result (out.new ≡ out.old ++ value_tokens (codes "locations")
+/// Adds a place by the artifact that has it, with the region of this record if regions become known.
+fn push_artifact(
+    out: &mut Lines,
+    artifact: u32,
+    found: &Record,
+    regions: bool,
+) -> Result<(), AllocError>
+    ensures { let written = known_as regions found.now in
+        OnOk result (out.new ≡ out.old ++ value_tokens (codes "locations")
         (Some (one_location (member (codes "index") (number (unsigned artifact)) no_members)
-        (region_for found.now.region found.now.snippet)))) }
+        (region_for written.region written.snippet)))) }
 {
     open_location(out)?;
     push_number(out, "index", artifact)?;
-    close_location(out, found)?;
+    close_location(out, found, regions)?;
     Ok(())
 }
 
 /// Adds the location, if the place has a URI or the number of an artifact (SARIF 2.1.0, "locations property").
-fn push_location(out: &mut Lines, found: &Record, artifact: Option<u32>) -> Result<(), AllocError>
-    ensures { OnOk result (out.new ≡ out.old ++ value_tokens (codes "locations")
-        (locations_for found.now.place (region_for found.now.region found.now.snippet) artifact)) }
+fn push_location(
+    out: &mut Lines,
+    found: &Record,
+    artifact: Option<u32>,
+    regions: bool,
+) -> Result<(), AllocError>
+    ensures { let written = known_as regions found.now in
+        OnOk result (out.new ≡ out.old ++ value_tokens (codes "locations")
+        (locations_for found.now.place (region_for written.region written.snippet) artifact)) }
 {
     match artifact {
-        Some(number) => push_artifact(out, number, found),
+        Some(number) => push_artifact(out, number, found, regions),
         None => match &found.place.uri {
-            Some(uri) => push_uri(out, uri, &found.place.base, found),
+            Some(uri) => push_uri(out, uri, &found.place.base, found, regions),
             None => Ok(()),
         },
     }
@@ -105,14 +123,16 @@ fn push_first_members(
     out: &mut Lines,
     found: &Record,
     artifact: Option<u32>,
+    regions: bool,
 ) -> Result<(), AllocError>
-    ensures { OnOk result (out.new ≡ out.old ++ first_tokens found.now artifact) }
+    ensures { OnOk result
+        (out.new ≡ out.old ++ first_tokens (known_as regions found.now) artifact) }
 {
     push_guid(out, found.guid)?;
     push_texts_if(out, "fingerprints", &found.full)?;
     push_kind(out, found.kind)?;
     push_level(out, found.kind, found.level)?;
-    push_location(out, found, artifact)?;
+    push_location(out, found, artifact, regions)?;
     Ok(())
 }
 
@@ -127,17 +147,19 @@ fn push_last_members(out: &mut Lines, found: &Record) -> Result<(), AllocError>
     Ok(())
 }
 
-/// Adds the result of a record, whose place is that of an artifact if it has a number (SARIF 2.1.0, "result
-/// object").
+/// Adds the result of a record, whose place is that of an artifact if it has a number, with its region if regions
+/// become known (SARIF 2.1.0, "result object").
 pub(crate) fn push_result(
     out: &mut Lines,
     found: &Record,
     artifact: Option<u32>,
+    regions: bool,
 ) -> Result<(), AllocError>
-    ensures { OnOk result (out.new ≡ out.old ++ data_tokens (known_result found.now artifact)) }
+    ensures { OnOk result (out.new
+        ≡ out.old ++ data_tokens (known_result (known_as regions found.now) artifact)) }
 {
     out.token(Token::BeginObject)?;
-    push_first_members(out, found, artifact)?;
+    push_first_members(out, found, artifact, regions)?;
     push_last_members(out, found)?;
     out.token(Token::EndObject)?;
     Ok(())

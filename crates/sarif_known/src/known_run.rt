@@ -3,7 +3,7 @@ ghost use Rattle.std.specs.Prelude.{◌≡◌, ◌≤◌, ◌<◌, ◌+◌, ◌-
 ghost use Rattle.json.specs.Layout.{pretty};
 ghost use Rattle.serde_json.specs.Data.{member, no_members, object, string};
 ghost use Rattle.sarif_model.specs.Limits.{most_bytes, most_results};
-ghost use Rattle.sarif_known.specs.Chosen.{chosen_of};
+ghost use Rattle.sarif_known.specs.Chosen.{chosen_of, known_as, run_as};
 ghost use Rattle.sarif_known.specs.KnownLog.{too_long, IsLost};
 ghost use Rattle.sarif_model.specs.Written.{list_if_any};
 ghost use Rattle.sarif_known.specs.KnownRun as said;
@@ -156,19 +156,19 @@ fn push_artifacts_if(out: &mut Lines, records: &[&Record]) -> Result<(), MergeFa
     Ok(())
 }
 
-/// Adds the results of these records, until the text is too long.
-fn push_results(out: &mut Lines, records: &[&Record]) -> Result<(), MergeFault>
+/// Adds the results of these records, with their regions if regions become known, until the text is too long.
+fn push_results(out: &mut Lines, records: &[&Record], regions: bool) -> Result<(), MergeFault>
     requires few { length records.now ≤ most_results }
-    ensures added { OnOk result
-        (out.new ≡ out.old ++ each_tokens (results_from 0 (map (λ r. r.now) records.now))) }
+    ensures added { OnOk result (out.new ≡ out.old
+        ++ each_tokens (results_from 0 (map (λ r. known_as regions r.now) records.now))) }
     ensures short { OnOk result
         (least_bytes out.old ≤ most_bytes → least_bytes out.new ≤ most_bytes) }
-    ensures lost { IfErr result (IsLost
-        (pretty (out.old ++ each_tokens (results_from 0 (map (λ r. r.now) records.now))))) }
+    ensures lost { IfErr result (IsLost (pretty (out.old
+        ++ each_tokens (results_from 0 (map (λ r. known_as regions r.now) records.now))))) }
 {
     let mut next: u32 = 0;
     for found in records {
-        push_result(out, found, artifact_number(found, next))?;
+        push_result(out, found, artifact_number(found, next), regions)?;
         if out.is_long() {
             return Err(too_long());
         }
@@ -215,17 +215,18 @@ fn close_run(out: &mut Lines, tool: &Text) -> Result<(), AllocError>
     Ok(())
 }
 
-/// Adds a run (SARIF 2.1.0, "run object"), unless the text gets too long.
-pub(crate) fn push_run(out: &mut Lines, run: &KnownRun<'_>) -> Result<(), MergeFault>
-    ensures added { OnOk result
-        (out.new ≡ out.old ++ data_tokens (known_run (chosen_of run.now))) }
-    ensures lost { IfErr result
-        (IsLost (pretty (out.old ++ data_tokens (known_run (chosen_of run.now))))) }
+/// Adds a run, with the regions of its results if regions become known (SARIF 2.1.0, "run object"), unless the text gets
+/// too long.
+pub(crate) fn push_run(out: &mut Lines, run: &KnownRun<'_>, regions: bool) -> Result<(), MergeFault>
+    ensures added { OnOk result (out.new
+        ≡ out.old ++ data_tokens (known_run (run_as regions (chosen_of run.now)))) }
+    ensures lost { IfErr result (IsLost
+        (pretty (out.old ++ data_tokens (known_run (run_as regions (chosen_of run.now)))))) }
 {
     if let Err(fault) = open_run(out, &run.records) {
         return Err(fault);
     }
-    if let Err(fault) = push_results(out, &run.records) {
+    if let Err(fault) = push_results(out, &run.records, regions) {
         return Err(fault);
     }
     close_run(out, run.tool)?;

@@ -1,3 +1,5 @@
+pub mod BarePartners
+pub mod BareRecords
 pub mod JustKnown
 pub mod NamesKept
 pub mod Readable

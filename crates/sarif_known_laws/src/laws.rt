@@ -1,11 +1,13 @@
 //! Laws of the known log, each the contract of a function that does nothing.
-ghost use Rattle.std.specs.Prelude.{◌≡◌, ◌∷◌, ℕ, Bool, List, Option, Some, Ok, map, option_and_then};
+ghost use Rattle.std.specs.Prelude.{◌≡◌, ◌∷◌, ℕ, Bool, false, List, Option, Some, Ok, map, option_and_then};
 ghost use Rattle.std.specs.Prelude.{slice_get, slice_index_or};
 ghost use Rattle.serde_json.specs.Data.{Data, null};
 ghost use Rattle.json_parts.specs.Indexed.{json_of};
 ghost use Rattle.json_parts.specs.Mark.{without_mark};
 ghost use Rattle.sarif_evidence.specs.declared.version.MatchingVersion.{MatchingVersion};
+ghost use Rattle.sarif_evidence.specs.declared.version.MatchingVersion.TheVariants.{Two};
 ghost use Rattle.sarif_evidence.specs.Evidence.{state_in};
+ghost use Rattle.sarif_model.specs.Members.{result_map};
 ghost use Rattle.sarif_match.specs.Partners.{partners_in};
 ghost use Rattle.sarif_model.specs.declared.record.Record.{Record};
 ghost use Rattle.sarif_options.specs.declared.policy.Policy.{Policy};
@@ -15,7 +17,7 @@ ghost use Rattle.sarif_runs.specs.Judging.{run_values};
 ghost use Rattle.sarif_runs.specs.Placed.{AreReadWith, Placed};
 ghost use Rattle.sarif_runs.specs.Record.{record_of};
 ghost use Rattle.sarif_runs.specs.declared.run_options.RecordOptions.{RecordOptions};
-ghost use Rattle.sarif_known.specs.Chosen.{Chosen};
+ghost use Rattle.sarif_known.specs.Chosen.{Chosen, known_as};
 ghost use Rattle.sarif_known_laws.specs.JustKnown.{StaysOut};
 ghost use Rattle.sarif_known.specs.KnownLog.{known_log};
 ghost use Rattle.sarif_known.specs.KnownRun.{known_run};
@@ -33,7 +35,8 @@ pub fn what_is_known_is_read_again()
         → json_of (without_mark text) ≡ Some (known_log runs)
         → log_of allow text ≡ Ok (map known_run runs) }
     ensures records { (options : RecordOptions) (runs : List Chosen) (placed : List Placed)
-        → CanBeRead options runs → AreReadWith options placed → run_values placed ≡ map known_run runs
+        → CanBeRead options runs → AreReadWith options placed
+        → run_values placed ≡ map known_run runs
         → AreKnownAgain runs placed }
 {}
 
@@ -56,6 +59,17 @@ pub fn own_suppressions_of_a_baseline_change_no_match()
         (partner : Option ℕ) → AreAlike baseline others
         → state_in version r (option_and_then (slice_get baseline) partner)
         ≡ state_in version r (option_and_then (slice_get others) partner) }
+{}
+
+/// What isn't known about a result in version 2 changes nothing: it has the same matches without its region and its snippet,
+/// and its record without them is what is read without regions.
+pub fn version_2_matches_without_regions()
+    ensures partners { (current baseline : List Record)
+        → partners_in Two (map (known_as false) current) (map (known_as false) baseline)
+        ≡ partners_in Two current baseline }
+    ensures records { (options : RecordOptions) (run : Data) (seq : ℕ)
+        → record_of (record options { regions = false }) run seq
+        ≡ result_map (known_as false) (record_of options run seq) }
 {}
 
 /// Exactly these current results become known, in order: all but those that are suppressed only until a day, and, unless

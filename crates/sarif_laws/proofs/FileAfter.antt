@@ -1,5 +1,5 @@
 -- The new suppression file of inputs without errors is read as the file that was meant.
-use Rattle.std.proofs.Common.{◌≡◌, ℕ, ◌≤◌, ◌++◌, Bool, true, false, ◌&&◌, not, List, [], ◌∷◌, map, slice_get, Result, Ok, Err, refl, sym, ap, ◌∙◌, if◌then◌else◌}
+use Rattle.std.proofs.Common.{◌≡◌, ℕ, ◌≤◌, ◌++◌, Bool, true, false, ◌&&◌, not, List, [], ◌∷◌, map, Some, None, slice_get, Result, Ok, Err, refl, sym, ap, ◌∙◌, if◌then◌else◌}
 use Rattle.std.specs.Prelude.{nat_lt}
 use Rattle.std.specs.List.{AllByRecursion, list_any}
 use Rattle.std.proofs.lemmas.Bool.{ltb-false}
@@ -27,12 +27,15 @@ use Rattle.sarif_runs.specs.Judging.{faults_of_runs}
 use Rattle.sarif_merge.specs.Life.{merge_in}
 use Rattle.sarif_merge.specs.MergedLog.{current_of, file_given, file_in, limited_of}
 use Rattle.sarif_merge.specs.OwnResult.{baseline_of}
-use Rattle.sarif_upkeep.specs.Renewed.{entries_count, how_of, renewal_faults}
-use Rattle.sarif_accept.specs.Adding.{MayBeHit, accepted_among, added_for, file_after, is_hit, is_said, may_hit, once_each, stays}
+use Rattle.sarif_upkeep.specs.Renewed.{added_in, entries_count, how_of, renewal_faults}
+use Rattle.sarif_accept.specs.Adding.{MayBeHit, accepted_among, is_hit, is_said, may_hit, once_each, stays}
+use Rattle.sarif_accept.specs.Choosing.{Marks, accepted_by, chosen_by, file_adding}
+use Rattle.sarif_accept.specs.Keeping.{chosen}
 use Rattle.sarif_accept.specs.Until.{HasGuid, IsDated}
 use Rattle.sarif_accept_laws.proofs.GivenFile.{today_given}
-use Rattle.sarif_accept_laws.proofs.NewFileRead.{new_file_read}
-use Rattle.sarif_laws.specs.NextMerge.{IsNewFileOf, KeepsMatches, with_file}
+use Rattle.sarif_accept_laws.proofs.NewFileRead.{new_file_adding}
+use Rattle.sarif_laws.specs.Choosing.{IsNewFileChoosing, entries_later, merge_choosing}
+use Rattle.sarif_laws.specs.NextMerge.{KeepsMatches, with_file}
 use Rattle.sarif_laws.proofs.LaterResults.{same_matches}
 use Rattle.sarif_laws.proofs.Limited.{all_limited, from_at}
 use Rattle.sarif_laws.proofs.Read.{guids_fit}
@@ -70,6 +73,16 @@ accepted_fit counts file (r ∷ rs) (state ∷ states) fit =
     (λ b. AllByRecursion HasGuid (if b then r ∷ accepted_among counts file rs states else accepted_among counts file rs states))
     [ true ↦ (fit.0, rest) | false ↦ rest ]
 
+chosen_fit : (marks : List Bool) (rs : List Record) → AllByRecursion HasGuid rs → AllByRecursion HasGuid (chosen marks rs)
+chosen_fit [] rs fit = tt
+chosen_fit (mark ∷ marks) [] fit = tt
+chosen_fit (true ∷ marks) (r ∷ rs) fit = (fit.0, chosen_fit marks rs fit.1)
+chosen_fit (false ∷ marks) (r ∷ rs) fit = chosen_fit marks rs fit.1
+
+by_marks_fit : (marks : Marks) (rs : List Record) → AllByRecursion HasGuid rs → AllByRecursion HasGuid (chosen_by marks rs)
+by_marks_fit None rs fit = fit
+by_marks_fit (Some marks) rs fit = chosen_fit marks rs fit
+
 once_fit : (before rs : List Record) → AllByRecursion HasGuid rs → AllByRecursion HasGuid (once_each before rs)
 once_fit before [] fit = tt
 once_fit before (r ∷ rs) fit =
@@ -106,27 +119,36 @@ another_file [] (x ∷ b) c d e more none new = let never : ⊥ = cc in absurd n
 another_file (x ∷ a) b c d e more none new = let never : ⊥ = cc in absurd never
 
 -- the suppression file of the next merge, as it is meant; its entries have the numbers that they had
-abbrev pub later_file : Inputs → Policy → Renewal → File
-later_file inputs policy renewal =
-    file_after (how_of (merge_in inputs policy) renewal) (may_hit policy) (file_given inputs) (limited_of inputs)
-    (states_of inputs.checks.matching (current_of inputs) (baseline_of inputs))
+abbrev pub later_file : Inputs → Policy → Marks → Renewal → File
+later_file inputs policy marks renewal =
+    file_adding (how_of (merge_in inputs policy) renewal) (file_given inputs) (limited_of inputs)
+    (added_in (merge_choosing inputs policy marks) renewal)
 
-module _ (inputs : Inputs) (policy : Policy) (renewal : Renewal) (text : List ℕ) (none : faults_of inputs ≡ [])
-    (small : renewal_faults (merge_in inputs policy) renewal ≡ [])
-    (dated : IsDated inputs.today renewal.until) (is : IsNewFileOf inputs policy renewal text) where
-  pub later_read : file_of text inputs.today ≡ Ok (renumbered (later_file inputs policy renewal))
-  later_read =
+module _ (inputs : Inputs) (policy : Policy) (marks : Marks) (renewal : Renewal) (text : List ℕ) (none : faults_of inputs ≡ [])
+    (small : renewal_faults (merge_choosing inputs policy marks) renewal ≡ [])
+    (dated : IsDated inputs.today renewal.until) (is : IsNewFileChoosing inputs policy marks renewal text) where
+  added_have_guids : AllByRecursion HasGuid (added_in (merge_choosing inputs policy marks) renewal)
+  added_have_guids =
       let rs = limited_of inputs in
       let states = states_of inputs.checks.matching (current_of inputs) (baseline_of inputs) in
-      new_file_read (how_of (merge_in inputs policy) renewal) (may_hit policy) inputs.suppressions inputs.today (file_given inputs) rs states text
-      (input_file inputs none)
-      (added_fit renewal.accept inputs.checks.matching (accepted_among (may_hit policy) (file_given inputs) rs states)
-      (accepted_fit (may_hit policy) (file_given inputs) rs states
+      added_fit renewal.accept inputs.checks.matching (accepted_by marks (may_hit policy) (file_given inputs) rs states)
+      (accepted_fit (may_hit policy) (file_given inputs) (chosen_by marks rs) (chosen_by marks states)
+      (by_marks_fit marks rs
       (all_limited HasGuid (λ r numbers fit. fit) (file_given inputs) (current_of inputs) (guids_fit (input_runs inputs)))))
-      dated (few_by (entries_count (merge_in inputs policy) renewal) _ _ small) is
 
-  pub later_is : file_given (with_file inputs text) ≡ renumbered (later_file inputs policy renewal)
+  pub later_read : file_of text inputs.today ≡ Ok (renumbered (later_file inputs policy marks renewal))
+  later_read =
+      new_file_adding (how_of (merge_in inputs policy) renewal) inputs.suppressions inputs.today (file_given inputs) (limited_of inputs)
+      (added_in (merge_choosing inputs policy marks) renewal) text
+      (input_file inputs none) added_have_guids
+      dated (few_by (entries_count (merge_choosing inputs policy marks) renewal) _ _ small) is
+
+  pub later_is : file_given (with_file inputs text) ≡ renumbered (later_file inputs policy marks renewal)
   later_is = ap file_in later_read
+
+  -- its entries are those that are kept, and then those that are added
+  pub entries_read_later : (file_given (with_file inputs text)).entries ≡ entries_later inputs policy marks renewal
+  entries_read_later = ap (λ (f : File). f.entries) later_is
 
   -- an entry that is kept matches the same results
   pub keeps_matches : KeepsMatches inputs text
@@ -134,9 +156,8 @@ module _ (inputs : Inputs) (policy : Policy) (renewal : Renewal) (text : List �
       let file = file_given inputs in
       let rs = current_of inputs in
       let how = how_of (merge_in inputs policy) renewal in
-      let states = states_of inputs.checks.matching rs (baseline_of inputs) in
       let from = from_at file rs i before is_before in
-      same_matches inputs.suppressions text inputs.today file how (limited_of inputs) (added_for how (may_hit policy) file (limited_of inputs) states) rs
+      same_matches inputs.suppressions text inputs.today file how (limited_of inputs) (added_in (merge_choosing inputs policy marks) renewal) rs
       (input_file inputs none) later_read i m n from.0 before after (with_number m e) e at_old
       (ap (λ (f : File). slice_get f.entries m) (sym later_is) ∙ at_new) refl from.1 is_before
       (ap (λ f. slice_get (limited f rs) i) (sym later_is) ∙ is_after)

@@ -19,7 +19,7 @@ use Rattle.sarif_runs.specs.Judging.{run_values}
 use Rattle.sarif_runs.specs.Placed.{Placed}
 use Rattle.sarif_runs_laws.specs.Ignoring.{run_without}
 use Rattle.sarif_inputs.specs.Faults.{faults_of}
-use Rattle.sarif_inputs.specs.Inputs.{Inputs, baseline_runs, input_runs, numbered, placed, placed_from, readable}
+use Rattle.sarif_inputs.specs.Inputs.{Inputs, baseline_runs, input_runs, numbered, placed, placed_from, readable, reading_checks}
 use Rattle.sarif_inputs.proofs.SourceRuns.{data_placed}
 use Rattle.sarif_inputs_laws.specs.Ignoring.{AreReadWithout, HasSameRecords, IsReadWithout, ignoring_none}
 use Rattle.sarif_inputs_laws.proofs.Ignored.{ignored_missing}
@@ -92,10 +92,10 @@ module _ (inputs : Inputs) (logs baselines : List (List ℕ)) (none : faults_of 
   records = ignored_missing inputs logs baselines none same older
 
   now : run_values (input_runs other) ≡ map (run_without names) (run_values (input_runs inputs))
-  now = values_without inputs.checks Log 0 inputs.logs logs same
+  now = values_without (reading_checks inputs) Log 0 inputs.logs logs same
 
   before : run_values (baseline_runs other) ≡ map (run_without names) (run_values (baseline_runs inputs))
-  before = values_without inputs.checks Baseline 0 inputs.baselines baselines older
+  before = values_without (reading_checks inputs) Baseline 0 inputs.baselines baselines older
 
   written_less : written_inputs other ≡ map (run_without names) (written_inputs inputs)
   written_less =
@@ -152,12 +152,12 @@ module _ (inputs : Inputs) (none : faults_of inputs ≡ []) (same : AreReadWitho
   known = ignored_missing inputs inputs.logs inputs.baselines none same older
 
   now_same : run_values (input_runs again) ≡ run_values (input_runs inputs)
-  now_same = values_same inputs.checks Log 0 inputs.logs
+  now_same = values_same (reading_checks inputs) Log 0 inputs.logs
 
   runs_same : runs_written again ≡ runs_written inputs
   runs_same =
       ap₂ (λ cs bs. as_before cs bs (run_values (input_runs again)) (run_values (baseline_runs again))) known.current known.baseline
-      ∙ ap₂ (as_before (current_of inputs) (baseline_of inputs)) now_same (values_same inputs.checks Baseline 0 inputs.baselines)
+      ∙ ap₂ (as_before (current_of inputs) (baseline_of inputs)) now_same (values_same (reading_checks inputs) Baseline 0 inputs.baselines)
 
   pub nothing_changes : (policy : Policy) → log_of_all again policy ≡ log_of_all inputs policy
   nothing_changes policy =

@@ -70,7 +70,7 @@ numbered_at s (suc i) (x ∷ es) e is =
     let next : (s + 1) + i ≡ s + suc i = omega arith in
     (rest.0, rest.1, rest.2 ∙ ap (λ n. with_number n rest.0) next)
 
--- a test that doesn't look at numbers
+-- a test that doesn't depend on numbers
 module _ (test : Entry → Bool) (same : (n : ℕ) (e : Entry) → test (with_number n e) ≡ test e) where
   numbered_statuses : (s : ℕ) (es : List Entry)
       → map (λ (e : Entry). e.status) (filter test (numbered_from s es)) ≡ map (λ (e : Entry). e.status) (filter test es)

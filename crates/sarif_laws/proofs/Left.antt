@@ -35,7 +35,9 @@ use Rattle.sarif_log.specs.LogBy.{listing_of}
 use Rattle.sarif_log.specs.MergedRuns.{written}
 use Rattle.sarif_log.proofs.Told.{active_told, level_told, state_told}
 use Rattle.sarif_accept.specs.Adding.{is_hit, may_hit, stays}
+use Rattle.sarif_results.specs.Drafts.{IsObject}
 use Rattle.sarif_laws.specs.Accepting.{IsLeft}
+use Rattle.sarif_laws.specs.Choosing.{IsKept}
 use Rattle.sarif_laws.specs.Hits.{fails_on, is_hit_in, lists, stays_in, suppressions_listed}
 use Rattle.sarif_laws.proofs.Read.{IsRead, statuses_read}
 
@@ -43,6 +45,14 @@ use Rattle.sarif_laws.proofs.Read.{IsRead, statuses_read}
 pub left_same : (policy : Policy) (d : Data) → is_hit_in policy d ≡ stays_in policy d → IsLeft policy d d
 left_same policy d stay = record {
   hit = stay;
+  suppressed = λ is. is;
+  level = refl;
+  state = refl;
+  suppressions = ([], sym (append-nil (suppressions_listed d)));
+}
+
+pub kept_same : (d : Data) → IsKept d d
+kept_same d = record {
   suppressed = λ is. is;
   level = refl;
   state = refl;
@@ -130,6 +140,47 @@ module _ (policy : Policy) (r : Record) (state : State) where
         ∙ ap (λ b. is_hit (may_hit policy) file r state && (not (is_empty (suppressions_of own file r)) || b)) (absent_told r.level state list ms ∙ current)
         ∙ stays_by (may_hit policy r state) (is_suppressed file r) (not (is_empty (suppressions_of own file r))) (stays file r) (has_some file r own read)
 
+  -- whether it is a hit, and one that stays
+  module _ (file : File) where
+    pub hit_written : (d : Data) → IsObject d → IsRead d r → is_hit_in policy (written (listing_of file) r state d) ≡ is_hit (may_hit policy) file r state
+    hit_written null never read = absurd never
+    hit_written (boolean b) never read = absurd never
+    hit_written (number n) never read = absurd never
+    hit_written (string s) never read = absurd never
+    hit_written (array ds) never read = absurd never
+    hit_written (object ms) is read = hit_by file ms (statuses_read ms r read)
+
+    pub stays_written : bytes_eq (codes "absent") (state_name state) ≡ false → (d : Data) → IsObject d → IsRead d r
+        → stays_in policy (written (listing_of file) r state d) ≡ (is_hit (may_hit policy) file r state && stays file r)
+    stays_written current null never read = absurd never
+    stays_written current (boolean b) never read = absurd never
+    stays_written current (number n) never read = absurd never
+    stays_written current (string s) never read = absurd never
+    stays_written current (array ds) never read = absurd never
+    stays_written current (object ms) is read = stays_when file ms (statuses_read ms r read) current
+
+  module _ (old new : File)
+      (still : is_suppressed old r ≡ true → is_suppressed new r ≡ true)
+      (begins : (own : List Data) → (rest : List Data) × (suppressions_of own new r ≡ suppressions_of own old r ++ rest)) where
+    -- a current result that has its suppressions of before, and perhaps others
+    pub kept_by : (d : Data) → IsRead d r → IsKept (written (listing_of old) r state d) (written (listing_of new) r state d)
+    kept_by null read = kept_same null
+    kept_by (boolean b) read = kept_same (boolean b)
+    kept_by (number n) read = kept_same (number n)
+    kept_by (string s) read = kept_same (string s)
+    kept_by (array ds) read = kept_same (array ds)
+    kept_by (object ms) read =
+        let own = elements (own_suppressions ms) in
+        let before = items_of (suppressions_of own old r) in
+        let after = items_of (suppressions_of own new r) in
+        let held = statuses_read ms r read in
+        record {
+          suppressed = λ is. active_by new ms held ∙ ap not (still (not_true (is_suppressed old r) (sym (active_by old ms held) ∙ is)));
+          level = level_told r.level state after ms ∙ sym (level_told r.level state before ms);
+          state = state_told r.level state after ms ∙ sym (state_told r.level state before ms);
+          suppressions = ((begins own).0, listed_by new ms held ∙ (begins own).1 ∙ ap (λ l. l ++ (begins own).0) (sym (listed_by old ms held)));
+        }
+
   module _ (old new : File) (hits : is_hit (may_hit policy) new r state ≡ (is_hit (may_hit policy) old r state && stays old r))
       (still : is_suppressed old r ≡ true → is_suppressed new r ≡ true)
       (begins : (own : List Data) → (rest : List Data) × (suppressions_of own new r ≡ suppressions_of own old r ++ rest))
@@ -142,14 +193,12 @@ module _ (policy : Policy) (r : Record) (state : State) where
     left_by (string s) read = left_same policy (string s) refl
     left_by (array ds) read = left_same policy (array ds) refl
     left_by (object ms) read =
-        let own = elements (own_suppressions ms) in
-        let before = items_of (suppressions_of own old r) in
-        let after = items_of (suppressions_of own new r) in
         let held = statuses_read ms r read in
+        let kept = kept_by old new still begins (object ms) read in
         record {
           hit = hit_by new ms held ∙ hits ∙ sym (stays_when old ms held current);
-          suppressed = λ is. active_by new ms held ∙ ap not (still (not_true (is_suppressed old r) (sym (active_by old ms held) ∙ is)));
-          level = level_told r.level state after ms ∙ sym (level_told r.level state before ms);
-          state = state_told r.level state after ms ∙ sym (state_told r.level state before ms);
-          suppressions = ((begins own).0, listed_by new ms held ∙ (begins own).1 ∙ ap (λ l. l ++ (begins own).0) (sym (listed_by old ms held)));
+          suppressed = kept.suppressed;
+          level = kept.level;
+          state = kept.state;
+          suppressions = kept.suppressions;
         }

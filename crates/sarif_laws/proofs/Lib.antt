@@ -1,6 +1,7 @@
 pub mod Absent
 pub mod AbsentKept
 pub mod Accepted
+pub mod AcceptedChosen
 pub mod Adopted
 pub mod Arranged
 pub mod ByTool
@@ -37,5 +38,7 @@ pub mod Sound
 pub mod Sums
 pub mod Tiered
 pub mod ToolLimits
+pub mod UnreadMerge
+pub mod UnreadSnippets
 pub mod WithoutNames
 pub mod Zipped

@@ -34,7 +34,7 @@ from_at file rs i found is = from_after file [] rs i found is
 
 -- ---- all results
 
--- what doesn't look at the entries that are used up
+-- what doesn't depend on the entries that are used up
 module _ (P : Record → Type 0) (apart : (r : Record) (numbers : List ℕ) → P r → P (with_spent r numbers)) where
   all_after : (file : File) (before rs : List Record) → AllByRecursion P rs → AllByRecursion P (limited_after file before rs)
   all_after file before [] all = tt

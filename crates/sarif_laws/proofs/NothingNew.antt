@@ -1,12 +1,12 @@
 -- The law of adopting.
-use Rattle.std.proofs.Common.{◌≡◌, ◌+◌, ◌<◌, ◌≤◌, ◌&&◌, ◌||◌, ◌++◌, ℕ, zero, suc, Bool, true, false, List, [], ◌∷◌, map, length, take, drop, get_or, Some, Ok, refl, sym, ap, ap₂, subst, ◌∙◌, arith, length-append, append-nil}
-use Rattle.std.specs.Prelude.{bytes_eq, cond, count_by, flat_map, nat_lt}
-use Rattle.std.specs.List.{AllByRecursion, AllZip}
+use Rattle.std.proofs.Common.{◌≡◌, ◌+◌, ◌<◌, ◌≤◌, ◌&&◌, ◌||◌, ◌++◌, ℕ, zero, suc, Bool, true, false, List, [], ◌∷◌, map, length, take, drop, get_or, None, Some, Ok, refl, sym, ap, ap₂, subst, ◌∙◌, arith, length-append, append-nil}
+use Rattle.std.specs.Prelude.{bytes_eq, cond, count_by, flat_map, nat_lt, slice_get, slice_index_or}
+use Rattle.std.specs.List.{AllByRecursion, AllZip, range_with_len}
 use Rattle.std.proofs.lemmas.Bool.{ltb-false, ltb-true}
 use Rattle.std.proofs.lemmas.List.{get_or_past, length-map, map-append, take-append-drop}
 use Rattle.std.proofs.lemmas.List.Concat.{flat_map-append}
 use Rattle.std.proofs.lemmas.List.Sums.{sum_by-append, sum_by-cons}
-use Rattle.std.proofs.lemmas.Option.{slice_get-get_or}
+use Rattle.std.proofs.lemmas.Option.{same_Some, slice_get-get_or}
 use Rattle.serde_json.specs.Data.{Data, null, boolean, number, string, array, object}
 use Rattle.serde_json.specs.View.{items_of}
 use Rattle.sarif_model.specs.declared.kinds.State.{State}
@@ -29,9 +29,13 @@ use Rattle.sarif_runs.specs.Judging.{run_values}
 use Rattle.sarif_runs.specs.Record.{record_of}
 use Rattle.sarif_results.specs.Annotated.{own_suppressions}
 use Rattle.sarif_results.specs.Drafts.{IsObject, IsRun, Listing}
-use Rattle.sarif_known.specs.Chosen.{Chosen, results_among}
+use Rattle.sarif_match.specs.Partners.{is_taken, partners_in}
+use Rattle.sarif_known.specs.Chosen.{Chosen, known_as, knows_regions, results_among, run_as}
 use Rattle.sarif_known.specs.KnownResult.{known_result}
 use Rattle.sarif_known.specs.KnownRun.{known_run}
+use Rattle.sarif_known.specs.Order.{known_runs}
+use Rattle.sarif_known.proofs.RunBack.{known_again}
+use Rattle.sarif_known_laws.proofs.BarePartners.{all_kept, bare_current}
 use Rattle.sarif_runs.specs.declared.run_options.RecordOptions.{RecordOptions}
 use Rattle.sarif_runs.specs.Placed.{AreReadWith}
 use Rattle.sarif_known.specs.Laws.{IsOfTool}
@@ -40,10 +44,10 @@ use Rattle.sarif_known.specs.declared.standing.Standing.{Standing}
 use Rattle.sarif_known.specs.Selected.{is_left_out, keep_unless, known_of, unmatched_of}
 use Rattle.sarif_read.specs.Reading.{log_of}
 use Rattle.sarif_inputs.specs.Faults.{faults_of}
-use Rattle.sarif_inputs.specs.Inputs.{Inputs, baseline_runs, baseline_sources, input_runs, log_sources, numbered, placed, placed_from, readable, looks_at_regions, record_options}
+use Rattle.sarif_inputs.specs.Inputs.{Inputs, baseline_runs, baseline_sources, input_runs, log_sources, numbered, placed, placed_from, readable, reading_checks, record_options}
 use Rattle.sarif_inputs.proofs.ReadFacts.{baseline_sides, log_sides, read_alike}
 use Rattle.sarif_inputs.proofs.SourceRuns.{data_placed}
-use Rattle.sarif_log.specs.LogBy.{listing_of, taken_of}
+use Rattle.sarif_log.specs.LogBy.{listing_of, partner_in, taken_of}
 use Rattle.sarif_log.specs.MergedRuns.{absent_runs, written}
 use Rattle.sarif_log.proofs.Limits.{records_unspent}
 use Rattle.sarif_log.proofs.Told.{state_told}
@@ -55,7 +59,7 @@ use Rattle.sarif_merge.proofs.ReadObjects.{objects_in}
 use Rattle.sarif_upkeep.specs.Heard.{heard}
 use Rattle.sarif_upkeep.specs.Known.{adopts, chosen_now, known_before, known_now, remembered, runs_known}
 use Rattle.sarif_upkeep.proofs.Taken.{known_fewer}
-use Rattle.sarif_laws.specs.Adopting.{HasNothingNew, IsAbsentOf, IsNextWith, of_tool, results_kept, results_unmatched}
+use Rattle.sarif_laws.specs.Adopting.{HasNothingNew, IsAbsentOf, IsNextWith, as_known, of_tool, results_kept, results_unmatched}
 use Rattle.sarif_laws.specs.Hits.{fails_on, is_hit_in, lists}
 use Rattle.sarif_laws.specs.KnownAgain.{IsKnownAgain, as_read, run_as_read}
 use Rattle.sarif_laws.specs.NextMerge.{absent_written}
@@ -70,8 +74,8 @@ use Rattle.sarif_laws.proofs.Limited.{read_limited, read_unspent}
 use Rattle.sarif_laws.proofs.Lists.{all_append, same_counts}
 use Rattle.sarif_laws.proofs.OfTool.{sources_sound}
 use Rattle.sarif_laws.proofs.Places.{has_place}
-use Rattle.sarif_laws.proofs.Remembered.{faultless_before, runs_alike}
-use Rattle.sarif_laws.proofs.SameLogs.{same_current}
+use Rattle.sarif_laws.proofs.Remembered.{can_be_read, faultless_before, runs_alike}
+use Rattle.sarif_laws.proofs.SameLogs.{all_regions, known_current}
 
 -- ---- nothing is left out
 
@@ -143,6 +147,47 @@ turn_read : (v : MatchingVersion) (cs more : List Record) → map as_read (turn 
 turn_read Two cs more = map-append as_read cs more
 turn_read Three cs more = map-append as_read more cs
 
+-- ---- records as they become known
+
+of_known : (regions : Bool) (tool : List ℕ) (rs : List Record) → of_tool tool (map (known_as regions) rs) ≡ map (known_as regions) (of_tool tool rs)
+of_known regions tool [] = refl
+of_known regions tool (r ∷ rs) =
+    elim (bytes_eq r.tool tool) as
+    (λ b. cond b (known_as regions r ∷ of_tool tool (map (known_as regions) rs)) (of_tool tool (map (known_as regions) rs))
+    ≡ map (known_as regions) (cond b (r ∷ of_tool tool rs) (of_tool tool rs)))
+    [ true ↦ ap (λ l. known_as regions r ∷ l) (of_known regions tool rs) | false ↦ of_known regions tool rs ]
+
+among_known : (regions : Bool) (runs : List Chosen) → records_among (map (run_as regions) runs) ≡ map (known_as regions) (records_among runs)
+among_known regions [] = refl
+among_known regions (run ∷ runs) =
+    ap (λ l. map (known_as regions) run.records ++ l) (among_known regions runs) ∙ sym (map-append (known_as regions) run.records (records_among runs))
+
+turn_known : (regions : Bool) (v : MatchingVersion) (cs more : List Record)
+    → map (known_as regions) (turn v cs more) ≡ turn v (map (known_as regions) cs) (map (known_as regions) more)
+turn_known regions Two cs more = map-append (known_as regions) cs more
+turn_known regions Three cs more = map-append (known_as regions) more cs
+
+read_known : (regions : Bool) (rs : List Record) → map as_read (map (known_as regions) rs) ≡ map (known_as regions) (map as_read rs)
+read_known regions [] = refl
+read_known regions (r ∷ rs) = ap (λ l. known_as regions (as_read r) ∷ l) (read_known regions rs)
+
+-- matching sees current results as they become known
+known_partners : (v : MatchingVersion) (once : Bool) (cs bs : List Record) → partners_in v (map (known_as (knows_regions v once)) cs) bs ≡ partners_in v cs bs
+known_partners Two true cs bs = ap (λ l. partners_in Two l bs) (all_kept cs)
+known_partners Two false cs bs = bare_current cs bs
+known_partners Three once cs bs = ap (λ l. partners_in Three l bs) (all_kept cs)
+
+-- a result that is matched with itself, as it becomes known, is unchanged
+known_unchanged : (v : MatchingVersion) (once : Bool) (r : Record) → matched_state v r (Some (known_as (knows_regions v once) r)) ≡ Unchanged
+known_unchanged Two true r = own_unchanged Two r
+known_unchanged Two false r = own_unchanged Two r
+known_unchanged Three once r = own_unchanged Three r
+
+known_at : (regions : Bool) (rs : List Record) (i : ℕ) (r : Record) → slice_get rs i ≡ Some r → slice_get (map (known_as regions) rs) i ≡ Some (known_as regions r)
+known_at regions [] i r is = let never : ⊥ = cc in absurd never
+known_at regions (x ∷ rs) zero r is = ap (λ q. Some (known_as regions q)) (same_Some x r is)
+known_at regions (x ∷ rs) (suc i) r is = known_at regions rs i r is
+
 one_unspent : (options : RecordOptions) (tool : List ℕ) (rs : List Record) → AllByRecursion (IsOfTool options tool) rs → AreUnspent rs
 one_unspent options tool [] all = tt
 one_unspent options tool (r ∷ rs) all = (all.0.readable.unspent, one_unspent options tool rs all.1)
@@ -154,12 +199,12 @@ among_unspent options (run ∷ runs) all =
 
 -- ---- objects
 
-get_object : (ds : List Data) (n : ℕ) → n < length ds → AllByRecursion IsObject ds → IsObject (get_or ds n null)
+pub get_object : (ds : List Data) (n : ℕ) → n < length ds → AllByRecursion IsObject ds → IsObject (get_or ds n null)
 get_object [] n within all = absurd (omega (arith, within))
 get_object (d ∷ ds) zero within all = all.0
 get_object (d ∷ ds) (suc n) within all = get_object ds n (omega (arith, within)) all.1
 
-run_objects : (runs : List Data) (k : ℕ) → k < length runs → AllByRecursion IsRun runs → AllByRecursion IsObject (results_of (get_or runs k null))
+pub run_objects : (runs : List Data) (k : ℕ) → k < length runs → AllByRecursion IsRun runs → AllByRecursion IsObject (results_of (get_or runs k null))
 run_objects [] k within all = absurd (omega (arith, within))
 run_objects (run ∷ runs) zero within all = all.0.1
 run_objects (run ∷ runs) (suc k) within all = run_objects runs k (omega (arith, within)) all.1
@@ -211,8 +256,15 @@ module _ (inputs : Inputs) (policy : Policy) (knowing : Knowing) (known : List �
   abbrev runs : List Chosen
   runs = map run_as_read (runs_known (merge_in inputs policy) knowing)
 
-  options_same : record_options later.checks ≡ record_options inputs.checks
-  options_same = λ i. record { regions = looks_at_regions (next.matching i) || next.once i; ignored = next.ignored i }
+  -- whether the known log has regions and snippets, as both merges say
+  abbrev regions : Bool
+  regions = knows_regions inputs.checks.matching inputs.checks.once
+
+  abbrev later_regions : Bool
+  later_regions = knows_regions later.checks.matching later.checks.once
+
+  regions_are : later_regions ≡ regions
+  regions_are = ap₂ knows_regions next.matching next.once
 
   now_read : map as_read (merge_in inputs policy).records ≡ current_of inputs
   now_read = read_limited (file_given inputs) (current_of inputs) (records_unspent (input_runs inputs))
@@ -220,69 +272,92 @@ module _ (inputs : Inputs) (policy : Policy) (knowing : Knowing) (known : List �
   now_own : AllByRecursion IsOfOne (known_now (merge_in inputs policy) (adopts knowing))
   now_own =
       let m = merge_in inputs policy in
-      all_of_one (record_options inputs.checks) (known_now m (adopts knowing))
-      (now_sound (record_options inputs.checks) m.file m.policy (adopts knowing) (input_runs inputs) m.records m.standings now_read
-      (faultless_runs inputs sound) (log_sides inputs.checks 0 inputs.logs) (sources_sound inputs.checks Log 0 inputs.logs))
+      let options = record_options (reading_checks inputs) in
+      all_of_one options (known_now m (adopts knowing))
+      (now_sound options m.file m.policy (adopts knowing) (input_runs inputs) m.records m.standings now_read
+      (faultless_runs inputs sound) (log_sides (reading_checks inputs) 0 inputs.logs) (sources_sound (reading_checks inputs) Log 0 inputs.logs))
 
-  before_own_options : AllByRecursion (IsChosenSound (record_options inputs.checks)) (known_before (merge_in inputs policy))
+  before_own_options : AllByRecursion (IsChosenSound (record_options (reading_checks inputs))) (known_before (merge_in inputs policy))
   before_own_options =
       let m = merge_in inputs policy in
-      before_sound (record_options inputs.checks) (heard m.runs) (baseline_runs inputs) m.taken (faultless_before inputs sound)
-      (baseline_sides inputs.checks 0 inputs.baselines) (sources_sound inputs.checks Baseline 0 inputs.baselines)
+      before_sound (record_options (reading_checks inputs)) (heard m.runs) (baseline_runs inputs) m.taken (faultless_before inputs sound)
+      (baseline_sides (reading_checks inputs) 0 inputs.baselines) (sources_sound (reading_checks inputs) Baseline 0 inputs.baselines)
 
   before_own : AllByRecursion IsOfOne (known_before (merge_in inputs policy))
   before_own =
       let m = merge_in inputs policy in
-      all_of_one (record_options inputs.checks) (known_before m) (all_again (record_options inputs.checks) (known_before m) before_own_options)
+      let options = record_options (reading_checks inputs) in
+      all_of_one options (known_before m) (all_again options (known_before m) before_own_options)
 
-  kept_read : map as_read (results_kept inputs policy) ≡ results_kept inputs policy
-  kept_read =
-      read_unspent (results_kept inputs policy)
-      (among_unspent (record_options inputs.checks) (known_before (merge_in inputs policy)) before_own_options)
+  -- the results of the baselines that stay known
+  abbrev kept : List Record
+  kept = records_among (known_before (merge_in inputs policy))
 
-  all_now : map as_read (records_among (known_now (merge_in inputs policy) (adopts knowing))) ≡ current_of later
+  kept_read : map as_read kept ≡ kept
+  kept_read = read_unspent kept (among_unspent (record_options (reading_checks inputs)) (known_before (merge_in inputs policy)) before_own_options)
+
+  all_now : map as_read (map (known_as regions) (records_among (known_now (merge_in inputs policy) (adopts knowing)))) ≡ map (known_as regions) (current_of later)
   all_now =
       let m = merge_in inputs policy in
-      ap (map as_read) (whole_now m.file m.policy (adopts knowing) m.runs m.records m.standings (omega (arith, whole))) ∙ now_read
-      ∙ same_current inputs later next.logs (sym options_same) sound next.faultless
+      let now = records_among (known_now m (adopts knowing)) in
+      read_known regions now
+      ∙ ap (map (known_as regions))
+      (ap (map as_read) (whole_now m.file m.policy (adopts knowing) m.runs m.records m.standings (omega (arith, whole))) ∙ now_read)
+      ∙ known_current inputs later next.logs next.matching next.once next.ignored sound next.faultless
+
+  all_kept_read : map as_read (map (known_as regions) kept) ≡ results_kept inputs policy
+  all_kept_read = read_known regions kept ∙ ap (map (known_as regions)) kept_read
 
   -- the runs of the known log
   baseline_is : run_values (baseline_runs later) ≡ map known_run runs
   baseline_is =
+      let checks = reading_checks later in
       let allow = later.checks.allow_external in
       let read = readable (log_of allow known) in
-      ap (λ bs. run_values (placed (numbered later.checks Baseline 0 bs))) next.baseline
-      ∙ ap run_values (append-nil (placed_from later.checks (Baseline 0) 0 read))
-      ∙ data_placed later.checks (Baseline 0) 0 read
+      ap (λ bs. run_values (placed (numbered checks Baseline 0 bs))) next.baseline
+      ∙ ap run_values (append-nil (placed_from checks (Baseline 0) 0 read))
+      ∙ data_placed checks (Baseline 0) 0 read
       ∙ ap readable (again.log allow)
       ∙ sym (runs_alike (runs_known (merge_in inputs policy) knowing))
 
+  -- the known results are read in the later merge as they were known
   records_are : baseline_of later ≡ records_among runs
-  records_are = (again.again (baseline_runs later)
-      (subst (λ options. AreReadWith options (baseline_runs later)) options_same (read_alike later.checks Baseline 0 later.baselines))
-      (baseline_is ∙ runs_alike (runs_known (merge_in inputs policy) knowing))).records
+  records_are =
+      let options = record_options (reading_checks later) in
+      let can =
+      can_be_read inputs policy knowing sound options next.ignored
+      (λ all. all_regions later.checks.matching later.checks.once later.snippets (regions_are ∙ all)) in
+      (known_again options runs (baseline_runs later) (read_alike (reading_checks later) Baseline 0 later.baselines) baseline_is can.each can.few_results).records
 
-  same_tools : (tool : List ℕ) → of_tool tool (baseline_of later) ≡ of_tool tool (turn later.checks.matching (current_of later) (results_kept inputs policy))
+  same_tools : (tool : List ℕ)
+      → of_tool tool (baseline_of later) ≡ of_tool tool (turn later.checks.matching (map (known_as later_regions) (current_of later)) (results_kept inputs policy))
   same_tools tool =
       let m = merge_in inputs policy in
       let now = known_now m (adopts knowing) in
-      let kept = results_kept inputs policy in
-      ap (of_tool tool) (records_are ∙ among_read (runs_known m knowing))
-      ∙ of_read tool (records_among (runs_known m knowing))
-      ∙ ap (map as_read) (known_of_tool tool m.matching now (known_before m) now_own before_own
+      let all = known_runs m.matching now (known_before m) in
+      let known = known_as regions in
+      ap (of_tool tool) (records_are ∙ among_read (runs_known m knowing) ∙ ap (map as_read) (among_known regions all))
+      ∙ of_read tool (map known (records_among all))
+      ∙ ap (map as_read) (of_known regions tool (records_among all))
+      ∙ ap (λ rs. map as_read (map known rs)) (known_of_tool tool m.matching now (known_before m) now_own before_own
       ∙ ap (of_tool tool) (turn_among m.matching now (known_before m)))
-      ∙ sym (of_read tool (turn m.matching (records_among now) kept))
-      ∙ ap (of_tool tool) (turn_read m.matching (records_among now) kept)
-      ∙ ap₂ (λ cs more. of_tool tool (turn m.matching cs more)) all_now kept_read
-      ∙ ap (λ v. of_tool tool (turn v (current_of later) kept)) (sym next.matching)
+      ∙ sym (ap (map as_read) (of_known regions tool (turn m.matching (records_among now) kept)))
+      ∙ sym (of_read tool (map known (turn m.matching (records_among now) kept)))
+      ∙ ap (λ rs. of_tool tool (map as_read rs)) (turn_known regions m.matching (records_among now) kept)
+      ∙ ap (of_tool tool) (turn_read m.matching (map known (records_among now)) (map known kept))
+      ∙ ap₂ (λ cs more. of_tool tool (turn m.matching cs more)) all_now all_kept_read
+      ∙ ap₂ (λ v b. of_tool tool (turn v (map (known_as b) (current_of later)) (results_kept inputs policy))) (sym next.matching) (sym regions_are)
 
-  matched_there : (k seq : ℕ) (r : Record) → IsResult later k seq → record_of (record_options later.checks) (run_at later k) seq ≡ Ok r
-      → partner_at later (number_among_all later k seq) ≡ Some r
+  matched_there : (k seq : ℕ) (r : Record) → IsResult later k seq → record_of (record_options (reading_checks later)) (run_at later k) seq ≡ Ok r
+      → partner_at later (number_among_all later k seq) ≡ Some (as_known later r)
   matched_there k seq r there is =
       let place = number_among_all later k seq in
       let at = has_place later k seq r next.faultless there is in
-      matched_in later.checks.matching (current_of later) (results_kept inputs policy) (baseline_of later) same_tools place r
-      (slice_get-get_or (current_of later) place r at.in_records ∙ ap Some at.record_is)
+      ap (λ partners. partner_in (baseline_of later) (slice_index_or partners place None))
+      (sym (known_partners later.checks.matching later.checks.once (current_of later) (baseline_of later)))
+      ∙ matched_in later.checks.matching (map (known_as later_regions) (current_of later)) (results_kept inputs policy) (baseline_of later) same_tools place
+      (as_known later r)
+      (known_at later_regions (current_of later) place r (slice_get-get_or (current_of later) place r at.in_records ∙ ap Some at.record_is))
 
   unchanged_written : (k seq : ℕ) → IsResult later k seq → state_in (result_at (written_run later k) seq) ≡ Some Unchanged
   unchanged_written k seq there =
@@ -295,11 +370,15 @@ module _ (inputs : Inputs) (policy : Policy) (knowing : Knowing) (known : List �
       let has = get_object (results_of (run_at later k)) seq there.1 (run_objects (run_values (input_runs later)) k in_runs (objects_in (log_sources later))) in
       ap state_in own.2
       ∙ ap (λ partner. state_in (written listed as_written (matched_state later.checks.matching r partner) d)) (matched_there k seq r there own.1)
-      ∙ ap (λ state. state_in (written listed as_written state d)) (own_unchanged later.checks.matching r)
+      ∙ ap (λ state. state_in (written listed as_written state d)) (known_unchanged later.checks.matching later.checks.once r)
       ∙ state_written listed as_written Unchanged d has
 
   others_there : (tool : List ℕ) → of_tool tool (results_unmatched later) ≡ of_tool tool (results_kept inputs policy)
-  others_there = unmatched_in later.checks.matching (current_of later) (results_kept inputs policy) (baseline_of later) same_tools
+  others_there tool =
+      let bs = baseline_of later in
+      ap (λ partners. of_tool tool (unmatched_of bs (map (is_taken partners) (range_with_len 0 (length bs)))))
+      (sym (known_partners later.checks.matching later.checks.once (current_of later) bs))
+      ∙ unmatched_in later.checks.matching (map (known_as later_regions) (current_of later)) (results_kept inputs policy) bs same_tools tool
 
   absent_there : AllZip IsAbsentOf (results_unmatched later) (flat_map results_of (absent_written later))
   absent_there =

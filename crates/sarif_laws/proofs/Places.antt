@@ -13,7 +13,7 @@ use Rattle.sarif_results.proofs.JudgedCounts.{records_of_logs}
 use Rattle.sarif_log.specs.LogBy.{states_of}
 use Rattle.sarif_log.proofs.Sides.{states_long}
 use Rattle.sarif_inputs.specs.Faults.{faults_of}
-use Rattle.sarif_inputs.specs.Inputs.{Inputs, input_runs, record_options}
+use Rattle.sarif_inputs.specs.Inputs.{Inputs, input_runs, reading_checks, record_options}
 use Rattle.sarif_inputs.proofs.ReadFacts.{log_sides, read_alike}
 use Rattle.sarif_merge.specs.MergedLog.{current_of}
 use Rattle.sarif_merge.specs.OwnResult.{IsResult, baseline_of, number_among_all, partner_at, run_at}
@@ -30,7 +30,7 @@ pub record HasPlace (inputs : Inputs) (place : ℕ) (r : Record) (s : State) : T
   pub state_is : get_or (states_of inputs.checks.matching (current_of inputs) (baseline_of inputs)) place s ≡ s
 
 pub has_place : (inputs : Inputs) (k seq : ℕ) (r : Record) → faults_of inputs ≡ [] → IsResult inputs k seq
-    → record_of (record_options inputs.checks) (run_at inputs k) seq ≡ Ok r
+    → record_of (record_options (reading_checks inputs)) (run_at inputs k) seq ≡ Ok r
     → HasPlace inputs (number_among_all inputs k seq) r (state_in inputs.checks.matching r (partner_at inputs (number_among_all inputs k seq)))
 has_place inputs k seq r none there is =
     let now = input_runs inputs in
@@ -39,11 +39,11 @@ has_place inputs k seq r none there is =
     let place = number_among_all inputs k seq in
     let s = state_in inputs.checks.matching r (partner_at inputs place) in
     let sound = faultless_runs inputs none in
-    let logs = log_sides inputs.checks 0 inputs.logs in
+    let logs = log_sides (reading_checks inputs) 0 inputs.logs in
     let in_runs : k < length (run_values now) = omega (arith, there.0, length-map now (λ p. p.run)) in
     let inside : place < length rs = omega (arith, within_total (run_values now) k in_runs, records_of_logs now sound logs, there.1) in
-    let alike = read_alike inputs.checks Log 0 inputs.logs in
-    let own = record_at (record_options inputs.checks) now k seq sound logs alike there.0 there.1 in
+    let alike = read_alike (reading_checks inputs) Log 0 inputs.logs in
+    let own = record_at (record_options (reading_checks inputs)) now k seq sound logs alike there.0 there.1 in
     let record_is : get_or rs place r ≡ r = own.2 r ∙ same_record own.0 r (sym own.1 ∙ is) in
     record {
       in_records = inside;

@@ -73,7 +73,7 @@ module _ (one other : Listing) where
   alike_run rs qs states (array ds) alike = refl
   alike_run rs qs states (object ms) alike = ap (λ found. object (with_results found (bare ms))) (alike_items rs qs states (own_results ms) alike)
 
-  alike_runs : (rs qs : List Record) (states : List State) (runs : List Data) → AllZip (IsAlike one other) rs qs
+  pub alike_runs : (rs qs : List Record) (states : List State) (runs : List Data) → AllZip (IsAlike one other) rs qs
       → merged_runs one rs states runs ≡ merged_runs other qs states runs
   alike_runs rs qs states [] alike = refl
   alike_runs rs qs states (run ∷ runs) alike =
@@ -117,12 +117,12 @@ module _ (inputs : Inputs) (policy : Policy) (renewal : Renewal) (text : List �
 
   later_none : faults_of (with_file inputs text) ≡ []
   later_none =
-      faultless_later inputs policy (undated renewal) text sound (sym (same_small inputs policy renewal none) ∙ small) tt
+      faultless_later inputs policy None (undated renewal) text sound (sym (same_small inputs policy renewal none) ∙ small) tt
       (is ∙ ap Some (same_file inputs policy renewal none))
 
-  later_file_is : file_given (with_file inputs text) ≡ renumbered (later_file inputs policy (undated renewal))
+  later_file_is : file_given (with_file inputs text) ≡ renumbered (later_file inputs policy None (undated renewal))
   later_file_is =
-      later_is inputs policy (undated renewal) text sound (sym (same_small inputs policy renewal none) ∙ small) tt
+      later_is inputs policy None (undated renewal) text sound (sym (same_small inputs policy renewal none) ∙ small) tt
       (is ∙ ap Some (same_file inputs policy renewal none))
 
   abbrev rs : List Record
@@ -136,14 +136,14 @@ module _ (inputs : Inputs) (policy : Policy) (renewal : Renewal) (text : List �
 
   -- with the numbers that the entries had
   abbrev later : File
-  later = later_file inputs policy (undated renewal)
+  later = later_file inputs policy None (undated renewal)
 
   abbrev added : List Record
   added = added_for (how_of (merge_in inputs policy) (undated renewal)) (may_hit policy) file (limited_of inputs) states
 
   later_is_read : file_of text inputs.today ≡ Ok (renumbered later)
   later_is_read =
-      later_read inputs policy (undated renewal) text sound (sym (same_small inputs policy renewal none) ∙ small) tt
+      later_read inputs policy None (undated renewal) text sound (sym (same_small inputs policy renewal none) ∙ small) tt
       (is ∙ ap Some (same_file inputs policy renewal none))
 
   as_many : length (limited (renumbered later) rs) ≡ length (limited file rs)
@@ -241,7 +241,7 @@ module _ (inputs : Inputs) (policy : Policy) (renewal : Renewal) (text : List �
     counts = ap count_of same_log;
     verdict = λ any. ap (λ runs. verdict_of (count_of runs) any) same_log;
     entries = later_entries;
-    matches = keeps_matches inputs policy (undated renewal) text sound (sym (same_small inputs policy renewal none) ∙ small) tt
+    matches = keeps_matches inputs policy None (undated renewal) text sound (sym (same_small inputs policy renewal none) ∙ small) tt
         (is ∙ ap Some (same_file inputs policy renewal none));
     unused = λ e unused. unused_now e unused.0.0 unused.0.1 unused.0.2 unused.1;
     none_unused = λ all. none_counted (is_unused (file_given (with_file inputs text)) (limited_of (with_file inputs text))) (file_given (with_file inputs text)).entries

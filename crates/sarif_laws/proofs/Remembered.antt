@@ -1,5 +1,5 @@
 -- The known log of a merge is read as its runs.
-use Rattle.std.proofs.Common.{◌≡◌, ◌+◌, ◌≤◌, ◌++◌, ℕ, Bool, true, false, List, [], ◌∷◌, length, map, Ok, refl, sym, ap, ap₂, subst, ◌∙◌, arith, length-append}
+use Rattle.std.proofs.Common.{◌≡◌, ◌+◌, ◌≤◌, ◌++◌, ◌||◌, ℕ, Bool, true, false, List, [], ◌∷◌, length, map, Ok, refl, sym, ap, ap₂, subst, ◌∙◌, arith, length-append, true≢false}
 use Rattle.std.specs.Prelude.{Some, codes, nat_lt, option_map}
 use Rattle.std.specs.List.{AllByRecursion}
 use Rattle.std.specs.Str.{IsUtf8}
@@ -17,6 +17,8 @@ use Rattle.sarif_model.specs.declared.merge_fault.Source.TheVariants.{Log, Basel
 use Rattle.sarif_model.specs.Limits.{most_results, most_runs}
 use Rattle.sarif_model.specs.Run.{results_total}
 use Rattle.sarif_model.specs.Written.{list_if_any}
+use Rattle.sarif_evidence.specs.declared.version.MatchingVersion.{MatchingVersion}
+use Rattle.sarif_evidence.specs.declared.version.MatchingVersion.TheVariants.{Two, Three}
 use Rattle.sarif_options.specs.declared.policy.Policy.{Policy}
 use Rattle.sarif_options.specs.declared.upkeep.Knowing.{Knowing}
 use Rattle.sarif_runs.specs.Judging.{faults_of_runs, run_faults, run_values}
@@ -24,18 +26,21 @@ use Rattle.sarif_read.specs.Reading.{log_of}
 use Rattle.sarif_results.proofs.JudgedCounts.{no_faults_here, no_faults_left}
 use Rattle.sarif_inputs.specs.Faults.{faults_of, file_faults, number_faults}
 use Rattle.sarif_entries.specs.Given.{file_or_none}
-use Rattle.sarif_inputs.specs.Inputs.{Inputs, Sourced, all_runs, all_sources, baseline_runs, baseline_sources, input_runs, log_sources, placed, placed_from, record_options, runs_in}
+use Rattle.sarif_inputs.specs.Inputs.{Inputs, Sourced, all_runs, all_sources, baseline_runs, baseline_sources, input_runs, log_sources, looks_at_regions, placed, placed_from, reading_checks, record_options, runs_in}
 use Rattle.sarif_inputs.specs.SourceFaults.{limit_faults, reading_faults, source_faults}
 use Rattle.sarif_inputs.proofs.ReadFacts.{baseline_sides, log_sides, placed-append}
 use Rattle.sarif_inputs.proofs.SourceRuns.{data_placed}
-use Rattle.sarif_known.specs.Chosen.{Chosen, results_among}
+use Rattle.sarif_known.specs.Chosen.{Chosen, known_as, knows_regions, results_among, run_as}
 use Rattle.sarif_known.specs.KnownLog.{known_log, known_text, pretty_text}
 use Rattle.sarif_known.specs.KnownResult.{known_result, object_from}
 use Rattle.sarif_known.specs.KnownRun.{artifact_at, base_alone, bases_alone, known_run, next_number, results_from, tool_named, with_some}
-use Rattle.sarif_known.specs.Laws.{CanBeRead, IsOfTool}
+use Rattle.sarif_known.specs.Laws.{CanBeRead, IsOfTool, IsReadable}
+use Rattle.sarif_known.specs.Order.{known_runs}
+use Rattle.sarif_runs.specs.Ignoring.{without_names}
 use Rattle.sarif_runs.specs.declared.run_options.RecordOptions.{RecordOptions}
 use Rattle.sarif_known.proofs.KnownPlain.{log_plain}
 use Rattle.sarif_known.proofs.LogBack.{log_back, text_read}
+use Rattle.sarif_known.proofs.RecordBack.{none_placed}
 use Rattle.sarif_known.proofs.Plain.{AreItemsPlain, AreMembersPlain, IsPlain}
 use Rattle.sarif_known.proofs.RunBack.{known_again}
 use Rattle.sarif_merge.specs.Life.{merge_in}
@@ -123,6 +128,62 @@ as_many_results : (runs : List Chosen) → results_among (map run_as_read runs) 
 as_many_results [] = refl
 as_many_results (run ∷ runs) = ap₂ (λ m n. m + n) (length-map run.records as_read) (as_many_results runs)
 
+as_many_known : (regions : Bool) (runs : List Chosen) → results_among (map (run_as regions) runs) ≡ results_among runs
+as_many_known regions [] = refl
+as_many_known regions (run ∷ runs) = ap₂ (λ m n. m + n) (length-map run.records (known_as regions)) (as_many_known regions runs)
+
+-- a record that can be read again can be read again as it becomes known
+readable_as : (own options : RecordOptions) (regions : Bool) (r : Record) → options.ignored ≡ own.ignored → (regions ≡ true → options.regions ≡ true)
+    → IsReadable own r → IsReadable options (known_as regions r)
+readable_as own options true r ignored fit readable = record {
+  guid = readable.guid;
+  level = readable.level;
+  full = readable.full;
+  partial = readable.partial;
+  full_kept = ap (λ names. without_names names r.full) ignored ∙ readable.full_kept;
+  partial_kept = ap (λ names. without_names names r.partial) ignored ∙ readable.partial_kept;
+  region = readable.region;
+  snippet = readable.snippet;
+  region_placed = readable.region_placed;
+  snippet_placed = readable.snippet_placed;
+  no_region = λ none. absurd (true≢false (sym (fit refl) ∙ none));
+  no_snippet = λ none. absurd (true≢false (sym (fit refl) ∙ none));
+  unspent = readable.unspent;
+}
+readable_as own options false r ignored fit readable = record {
+  guid = readable.guid;
+  level = readable.level;
+  full = readable.full;
+  partial = readable.partial;
+  full_kept = ap (λ names. without_names names r.full) ignored ∙ readable.full_kept;
+  partial_kept = ap (λ names. without_names names r.partial) ignored ∙ readable.partial_kept;
+  region = tt;
+  snippet = tt;
+  region_placed = none_placed r.place;
+  snippet_placed = none_placed r.place;
+  no_region = λ _. refl;
+  no_snippet = λ _. refl;
+  unspent = readable.unspent;
+}
+
+module _ (own options : RecordOptions) (regions : Bool) (ignored : options.ignored ≡ own.ignored) (fit : regions ≡ true → options.regions ≡ true) where
+  each_as : (tool : List ℕ) (rs : List Record) → AllByRecursion (λ r. IsOfTool own tool (as_read r)) rs
+      → AllByRecursion (λ r. IsOfTool options tool (as_read r)) (map (known_as regions) rs)
+  each_as tool [] all = tt
+  each_as tool (r ∷ rs) all = (
+    record { tool_is = all.0.tool_is; readable = readable_as own options regions (as_read r) ignored fit all.0.readable },
+    each_as tool rs all.1,
+  )
+
+  chosen_as : (runs : List Chosen) → AllByRecursion (IsChosenAgain own) runs → AllByRecursion (IsChosenAgain options) (map (run_as regions) runs)
+  chosen_as [] all = tt
+  chosen_as (run ∷ runs) all = (each_as run.tool run.records all.0, chosen_as runs all.1)
+
+-- the options with which a known log is read
+pub known_fit : (v : MatchingVersion) (once : Bool) → knows_regions v once ≡ true → (looks_at_regions v || once) ≡ true
+known_fit Two once is = is
+known_fit Three once is = refl
+
 results_alike : (n : ℕ) (rs : List Record) → results_from n (map as_read rs) ≡ results_from n rs
 results_alike n [] = refl
 results_alike n (r ∷ rs) = ap (λ l. known_result r (option_map (λ _. n) (base_alone r)) ∷ l) (results_alike (next_number n (base_alone r)) rs)
@@ -138,7 +199,7 @@ run_alike run =
     ∷ (codes "tool", Some (tool_named run.tool))
     ∷ [])) (bases_alike run.records) (results_alike 0 run.records)
 
--- they are written the same
+-- the runs as they are read are written as the runs themselves
 pub runs_alike : (runs : List Chosen) → map known_run (map run_as_read runs) ≡ map known_run runs
 runs_alike [] = refl
 runs_alike (run ∷ runs) = ap₂ (λ x xs. x ∷ xs) (run_alike run) (runs_alike runs)
@@ -153,8 +214,12 @@ module _ (inputs : Inputs) (policy : Policy) (knowing : Knowing) (none : faults_
   records_read : map as_read (merge_in inputs policy).records ≡ current_of inputs
   records_read = read_limited (file_given inputs) (current_of inputs) (records_unspent (input_runs inputs))
 
-  can_be_read : CanBeRead (record_options inputs.checks) (map run_as_read (runs_known (merge_in inputs policy) knowing))
-  can_be_read =
+  -- with any options that ignore the same, and that read regions if the known log has them
+  pub can_be_read : (options : RecordOptions) → options.ignored ≡ inputs.checks.ignored
+      → (knows_regions inputs.checks.matching inputs.checks.once ≡ true → options.regions ≡ true)
+      → CanBeRead options (map run_as_read (runs_known (merge_in inputs policy) knowing))
+  can_be_read options ignored fit =
+      let own = record_options (reading_checks inputs) in
       let m = merge_in inputs policy in
       let adopt = adopts knowing in
       let now = known_now m adopt in
@@ -170,18 +235,20 @@ module _ (inputs : Inputs) (policy : Policy) (knowing : Knowing) (none : faults_
       let now_fits = now_few m.file m.policy adopt m.runs m.records m.standings in
       let before_fits = before_few (heard m.runs) m.before m.known m.taken in
       record {
-        each = runs_again (record_options inputs.checks) (runs_known m knowing)
-            (grouped_sound (record_options inputs.checks) m.matching now before
-            (now_sound (record_options inputs.checks) m.file m.policy adopt (input_runs inputs) m.records m.standings records_read
-            (faultless_runs inputs none) (log_sides inputs.checks 0 inputs.logs) (sources_sound inputs.checks Log 0 inputs.logs))
-            (all_again (record_options inputs.checks) before
-            (before_sound (record_options inputs.checks) (heard m.runs) (baseline_runs inputs) m.taken (faultless_before inputs none)
-            (baseline_sides inputs.checks 0 inputs.baselines) (sources_sound inputs.checks Baseline 0 inputs.baselines))));
+        each = runs_again options (runs_known m knowing)
+            (chosen_as own options m.regions ignored fit (known_runs m.matching now before)
+            (grouped_sound own m.matching now before
+            (now_sound own m.file m.policy adopt (input_runs inputs) m.records m.standings records_read
+            (faultless_runs inputs none) (log_sides (reading_checks inputs) 0 inputs.logs) (sources_sound (reading_checks inputs) Log 0 inputs.logs))
+            (all_again own before
+            (before_sound own (heard m.runs) (baseline_runs inputs) m.taken (faultless_before inputs none)
+            (baseline_sides (reading_checks inputs) 0 inputs.baselines) (sources_sound (reading_checks inputs) Baseline 0 inputs.baselines)))));
         few_runs = omega (
           arith,
           length-map (runs_known m knowing) run_as_read,
+          length-map (known_runs m.matching now before) (run_as m.regions),
           known_total (λ _. 1) m.matching now before,
-          total_runs (runs_known m knowing),
+          total_runs (known_runs m.matching now before),
           total_runs now,
           total_runs before,
           now_is,
@@ -194,8 +261,9 @@ module _ (inputs : Inputs) (policy : Policy) (knowing : Knowing) (none : faults_
         few_results = omega (
           arith,
           as_many_results (runs_known m knowing),
+          as_many_known m.regions (known_runs m.matching now before),
           known_total (λ run. length run.records) m.matching now before,
-          total_results (runs_known m knowing),
+          total_results (known_runs m.matching now before),
           total_results now,
           total_results before,
           now_fits,
@@ -233,7 +301,7 @@ known_read inputs policy knowing none utf8 =
     let runs = runs_known (merge_in inputs policy) knowing in
     let again = map run_as_read runs in
     let options = record_options inputs.checks in
-    let can = can_be_read inputs policy knowing none in
+    let can = can_be_read inputs policy knowing none options refl (known_fit inputs.checks.matching inputs.checks.once) in
     let d = known_log runs in
     let same : known_log again ≡ d = log_alike runs in
     let plain : IsPlain d = subst IsPlain same (log_plain options again can.each can.few_results) in

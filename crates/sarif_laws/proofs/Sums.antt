@@ -25,7 +25,7 @@ use Rattle.sarif_log.proofs.Limits.{limited_long}
 use Rattle.sarif_log.proofs.Sides.{records_present, states_long, taken_long}
 use Rattle.sarif_match.specs.Partners.{partners_in}
 use Rattle.sarif_inputs.specs.Faults.{faults_of}
-use Rattle.sarif_inputs.specs.Inputs.{Inputs, baseline_runs, input_runs}
+use Rattle.sarif_inputs.specs.Inputs.{Inputs, baseline_runs, input_runs, reading_checks}
 use Rattle.sarif_inputs.proofs.ReadFacts.{baseline_sides, log_sides}
 use Rattle.sarif_inputs_laws.specs.Parts.{HasParts, IsMatchedAs, baseline_in, current_in, with_sources}
 use Rattle.sarif_inputs_laws.proofs.Parts.{accepted_parts, matched_parts}
@@ -86,13 +86,13 @@ module _ (inputs : Inputs) (logs more baselines others : List (List ℕ)) where
     matched = matched_parts inputs logs more baselines others v apart
 
     records_long : length (current_of one) ≡ results_total (run_values (input_runs one))
-    records_long = records_of_logs (input_runs one) (faultless_runs one parts.first_faultless) (log_sides inputs.checks 0 logs)
+    records_long = records_of_logs (input_runs one) (faultless_runs one parts.first_faultless) (log_sides (reading_checks inputs) 0 logs)
 
     limited_as_long : length (limited_of one) ≡ results_total (run_values (input_runs one))
     limited_as_long = limited_long (file_given inputs) (current_of one) ∙ records_long
 
     older_long : length (baseline_of one) ≡ length (present_results (run_values (baseline_runs one)))
-    older_long = records_present (baseline_runs one) (faultless_before one parts.first_faultless) (baseline_sides inputs.checks 0 baselines)
+    older_long = records_present (baseline_runs one) (faultless_before one parts.first_faultless) (baseline_sides (reading_checks inputs) 0 baselines)
 
     written_both : written_inputs both ≡ written_inputs one ++ written_inputs other
     written_both =

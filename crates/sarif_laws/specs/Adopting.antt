@@ -1,5 +1,5 @@
 -- What the next merge has if the known log leaves no current result out.
-use Rattle.std.specs.Prelude.{◌≡◌, ℕ, false, bytes_eq, List, [], ◌∷◌, filter, flat_map, length, Option, Some, Ok}
+use Rattle.std.specs.Prelude.{◌≡◌, ℕ, false, bytes_eq, List, [], ◌∷◌, filter, flat_map, length, map, Option, Some, Ok}
 use Rattle.std.specs.List.{AllZip}
 use Rattle.serde_json.specs.Data.{Data}
 use Rattle.sarif_model.specs.declared.kinds.State.TheVariants.{Absent, Unchanged}
@@ -12,10 +12,11 @@ use Rattle.sarif_counts.specs.CountOf.{count_of}
 use Rattle.sarif_counts.specs.Hits.{verdict_of}
 use Rattle.sarif_findings.specs.Reported.{state_in}
 use Rattle.sarif_runs.specs.Record.{record_of}
+use Rattle.sarif_known.specs.Chosen.{known_as, knows_regions}
 use Rattle.sarif_known.specs.KnownResult.{known_result}
 use Rattle.sarif_known.specs.Selected.{unmatched_of}
 use Rattle.sarif_inputs.specs.Faults.{faults_of}
-use Rattle.sarif_inputs.specs.Inputs.{Inputs, record_options}
+use Rattle.sarif_inputs.specs.Inputs.{Inputs, reading_checks, record_options}
 use Rattle.sarif_log.specs.LogBy.{taken_of}
 use Rattle.sarif_log.specs.MergedRuns.{written}
 use Rattle.sarif_merge.specs.Life.{merge_in}
@@ -38,9 +39,15 @@ pub record IsNextWith (inputs : Inputs) (known : List ℕ) (later : Inputs) : Ty
 abbrev pub text_known : Inputs → Policy → Knowing → List ℕ
 text_known inputs policy knowing = (remembered (merge_in inputs policy) knowing).text
 
--- the results of the baselines that stay known
+-- a record as it becomes known in the merge of these inputs: with its region and its snippet if matching reads them or
+-- copies aren't counted, otherwise without
+abbrev pub as_known : Inputs → Record → Record
+as_known inputs = known_as (knows_regions inputs.checks.matching inputs.checks.once)
+
+-- the results of the baselines that stay known, as they become known
 abbrev pub results_kept : Inputs → Policy → List Record
-results_kept inputs policy = flat_map (λ run. run.records) (known_before (merge_in inputs policy))
+results_kept inputs policy =
+    map (as_known inputs) (flat_map (λ run. run.records) (known_before (merge_in inputs policy)))
 
 -- the results of the baselines that no current result matches
 abbrev pub results_unmatched : Inputs → List Record
@@ -59,10 +66,10 @@ IsAbsentOf r d =
 
 -- nothing is new in this merge, and these are the results of its baseline that aren't current
 pub record HasNothingNew (kept : List Record) (inputs : Inputs) : Type 0 where
-  -- the match of each current result has the same record, and so each is unchanged
+  -- the match of each current result has the same record, as it becomes known, and so each is unchanged
   pub matched : (k seq : ℕ) (r : Record) → IsResult inputs k seq
-      → record_of (record_options inputs.checks) (run_at inputs k) seq ≡ Ok r
-      → partner_at inputs (number_among_all inputs k seq) ≡ Some r
+      → record_of (record_options (reading_checks inputs)) (run_at inputs k) seq ≡ Ok r
+      → partner_at inputs (number_among_all inputs k seq) ≡ Some (as_known inputs r)
   pub unchanged : (k seq : ℕ) → IsResult inputs k seq
       → state_in (merged_result inputs k seq) ≡ Some Unchanged
   -- exactly the others are absent, of each tool in their order

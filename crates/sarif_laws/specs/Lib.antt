@@ -1,5 +1,6 @@
 pub mod Accepting
 pub mod Adopting
+pub mod Choosing
 pub mod Hits
 pub mod Ignored
 pub mod KnownAgain
@@ -7,4 +8,5 @@ pub mod Lines
 pub mod NextMerge
 pub mod Pruning
 pub mod SameBaseline
+pub mod Snippets
 pub mod Sums

@@ -16,7 +16,7 @@ use Rattle.sarif_merge.specs.Life.{merge_in}
 use Rattle.sarif_merge.specs.MergedLog.{file_given, limited_of, runs_written}
 use Rattle.sarif_upkeep.specs.Renewed.{rules_after}
 
--- the same inputs with this suppression file
+-- the same inputs with this suppression file; records have regions and snippets as before
 abbrev pub with_file : Inputs → List ℕ → Inputs
 with_file inputs text = record inputs { suppressions = Some text }
 

@@ -8,6 +8,7 @@ ghost use Rattle.sarif_options.specs.declared.upkeep.Knowing.{Knowing};
 ghost use Rattle.sarif_options.specs.declared.upkeep.Renewal.{Renewal};
 ghost use Rattle.sarif_counts.specs.CountOf.{count_of};
 ghost use Rattle.sarif_counts.specs.Hits.{hits_of};
+ghost use Rattle.sarif_accept.specs.Choosing.{Marks};
 ghost use Rattle.sarif_accept.specs.Until.{IsDated, IsUntil};
 ghost use Rattle.sarif_match_laws.specs.ByTool.{HaveNoToolInCommon};
 ghost use Rattle.sarif_known.specs.Laws.{AreAlike};
@@ -15,7 +16,9 @@ ghost use Rattle.sarif_upkeep.specs.Known.{remembered, runs_known};
 ghost use Rattle.sarif_upkeep.specs.Life as life;
 ghost use Rattle.sarif_upkeep.specs.Renewed.{renewal_faults, renewed};
 ghost use Rattle.sarif_inputs.specs.Faults.{faults_of};
+ghost use Rattle.sarif_evidence.specs.declared.version.MatchingVersion.TheVariants.{Two};
 ghost use Rattle.sarif_inputs.specs.Inputs.{Inputs, record_options};
+ghost use Rattle.sarif_inputs.specs.Snippets.{compares_snippets};
 ghost use Rattle.sarif_inputs_laws.specs.Ignoring.{AreReadWithout, ignoring_none};
 ghost use Rattle.sarif_inputs_laws.specs.Parts.{baseline_in, current_in, with_sources};
 ghost use Rattle.sarif_merge.specs.Life.{merge_in};
@@ -23,6 +26,7 @@ ghost use Rattle.sarif_merge.specs.MergedLog as log;
 ghost use Rattle.sarif_merge.specs.OwnResult.{baseline_of};
 ghost use Rattle.sarif_laws.specs.Accepting.{LeavesWhatStays};
 ghost use Rattle.sarif_laws.specs.Adopting.{HasNothingNew, IsNextWith, results_kept, text_known};
+ghost use Rattle.sarif_laws.specs.Choosing.{IsNewFileChoosing, LeavesOthers, merge_choosing};
 ghost use Rattle.sarif_laws.specs.Hits.{is_hit_in};
 ghost use Rattle.sarif_laws.specs.Ignored.{LacksIgnored, log_of_all};
 ghost use Rattle.sarif_laws.specs.KnownAgain.{IsKnownAgain};
@@ -30,6 +34,7 @@ ghost use Rattle.sarif_laws.specs.Lines.{lines_in};
 ghost use Rattle.sarif_laws.specs.NextMerge.{IsNewFileOf};
 ghost use Rattle.sarif_laws.specs.Pruning.{ChangesNoResult};
 ghost use Rattle.sarif_laws.specs.SameBaseline.{HasSameResults, with_baselines};
+ghost use Rattle.sarif_laws.specs.Snippets.{IsSameMerge, with_snippets};
 ghost use Rattle.sarif_laws.specs.Sums.{IsSumOf, is_limited_by_tool};
 
 /// The gate counts the hits of a merged log: its number of hits is how many results of the runs are hits.
@@ -51,19 +56,34 @@ pub fn the_new_file_is_read_as_itself()
 /// or without pruning, and an expiry date not before today if there is one. Then the merge of the same inputs with the
 /// new file has no errors. Its hits are exactly those of before that stay, each at its place; so the gate passes if none
 /// stays. Each result that was suppressed is suppressed; each has its level, its state and its suppressions of before,
-/// possibly followed by others; absent results are written as before. An entry that is kept matches the same results, also
-/// one with a `max`.
+/// possibly followed by others; absent results are written as before. An entry that is kept, with or without a
+/// `max`, matches the same results.
 pub fn accepting_leaves_the_hits_that_stay()
     ensures { (inputs : Inputs) (policy : Policy) (renewal : Renewal) (text : List ℕ)
         → faults_of inputs ≡ [] → renewal_faults (merge_in inputs policy) renewal ≡ []
         → renewal.accept ≡ true → IsUntil inputs.today renewal.until
-        → IsNewFileOf inputs policy renewal text → LeavesWhatStays inputs policy text }
+        → IsNewFileOf inputs policy renewal text → LeavesWhatStays inputs policy renewal text }
+{}
+
+/// The law of accepting chosen hits. Let inputs have no errors, and let their new suppression file have none, with
+/// accepting the chosen hits alone. Then the merge of the same inputs with the new file has no errors. Its hits among the
+/// current results are exactly those of before that stay, or that no added entry matches; a chosen one is a hit only if it
+/// stays. Each result that was suppressed is suppressed; each has its level, its state and its suppressions of before,
+/// possibly followed by others; absent results are written as before.
+pub fn accepting_chosen_hits_leaves_the_others()
+    ensures { (inputs : Inputs) (policy : Policy) (marks : Marks) (renewal : Renewal)
+        (text : List ℕ)
+        → faults_of inputs ≡ []
+        → renewal_faults (merge_choosing inputs policy marks) renewal ≡ []
+        → IsUntil inputs.today renewal.until → renewal.accept ≡ true
+        → IsNewFileChoosing inputs policy marks renewal text
+        → LeavesOthers inputs policy marks renewal text }
 {}
 
 /// The law of pruning. Let inputs have no errors, and let their new suppression file have none, with pruning and without
 /// accepting. Then the merge of the same inputs with the new file has no errors, and the same runs, counts and verdict.
 /// The entries of the new file are exactly those that pruning keeps, in order, with the numbers of their new positions;
-/// they match the same results, also those with a `max`. An entry that is unused in it isn't expired, and names a tool
+/// they match the same results, with or without a `max`. An entry that is unused in it isn't expired, and names a tool
 /// that wasn't heard; or it names none, and an input run failed or there is none. So no entry is unused if the tool of
 /// each was heard.
 pub fn pruning_changes_no_run()
@@ -85,8 +105,9 @@ pub fn the_known_log_is_read_again()
 
 /// The law of adopting. Let inputs have no errors, and let their known log leave no current result out, for example because
 /// new results are adopted. Let another merge have the same logs, the known log as its only baseline and no errors; its
-/// suppression file, its date and its checks may differ. Then the match of each current result has the same record, so
-/// each is unchanged. The absent results are exactly those of the baselines that stay known, of each tool in their order.
+/// suppression file, its date and its checks may differ. Then the match of each current result has the same record, as it
+/// becomes known, so each is unchanged. In version 2 a known record has no region and no snippet, unless copies aren't
+/// counted. The absent results are exactly those of the baselines that stay known, of each tool in their order.
 /// So the gate passes if its policy lists neither unchanged nor absent results.
 ///
 /// `bytes`: the baseline is any bytes that are read as the known log. `text`: it is the text that the merge gives.
@@ -112,6 +133,15 @@ pub fn own_suppressions_of_a_baseline_change_no_result()
     ensures { (inputs : Inputs) (baselines : List (List ℕ))
         → AreAlike (baseline_of inputs) (baseline_of (with_baselines inputs baselines))
         → HasSameResults inputs (with_baselines inputs baselines) }
+{}
+
+/// Snippets that no entry compares change nothing in version 2 of matching, if copies are counted: the merge has the same
+/// errors, the same runs and as many unused entries whether records have regions and snippets or not. So it doesn't matter
+/// that pruning may drop the last entry that compares snippets.
+pub fn snippets_that_no_entry_compares_change_nothing()
+    ensures { (inputs : Inputs) → inputs.checks.matching ≡ Two → inputs.checks.once ≡ false
+        → compares_snippets (log.file_given inputs) ≡ false
+        → IsSameMerge (with_snippets false inputs) inputs }
 {}
 
 /// The list of unused entries has a line for each entry that the gate treats as unused.

@@ -7,6 +7,6 @@ mod laws;
 pub use laws::{
     accepting_leaves_the_hits_that_stay, adopting_leaves_nothing_new, each_unused_entry_has_a_line,
     logs_differ_only_in_ignored_fingerprints, own_suppressions_of_a_baseline_change_no_result,
-    parts_by_tool_add_up, pruning_changes_no_run, the_gate_counts_the_hits,
-    the_known_log_is_read_again, the_new_file_is_read_as_itself,
+    parts_by_tool_add_up, pruning_changes_no_run, snippets_that_no_entry_compares_change_nothing,
+    the_gate_counts_the_hits, the_known_log_is_read_again, the_new_file_is_read_as_itself,
 };

@@ -51,4 +51,4 @@ text_alike inputs policy fileless = ap compact_text (log_alike inputs policy fil
 
 pub later_alike : (inputs : Inputs) (policy : Policy) → AreFileless inputs → merge_in (allowing true inputs) policy ≡ merge_in (allowing false inputs) policy
 later_alike inputs policy fileless =
-    λ i. merge_of inputs.checks.matching (file_given inputs) inputs.suppressions policy (current inputs fileless i) (baseline inputs fileless i)
+    λ i. merge_of inputs.checks (file_given inputs) inputs.suppressions policy (current inputs fileless i) (baseline inputs fileless i)

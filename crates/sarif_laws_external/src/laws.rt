@@ -74,6 +74,7 @@ pub fn external_files_change_no_result()
         ≡ gate_in (merged_by version file current baseline policy) }
     ensures verdict { (version : MatchingVersion) (file : File)
         (current baseline : List Placed) (policy : Policy)
-        → verdict_of (count_of (runs_by version file (all_without current) (all_without baseline))) policy
+        → verdict_of
+        (count_of (runs_by version file (all_without current) (all_without baseline))) policy
         ≡ verdict_of (count_of (runs_by version file current baseline)) policy }
 {}

@@ -20,7 +20,7 @@ level_same f g same =
     let suppressed = same true in
     omega (arith, active, suppressed)
 
-state_same : (f g : Level → Bool → ℕ) → ((l : Level) (b : Bool) → f l b ≡ g l b) → of_state f ≡ of_state g
+pub state_same : (f g : Level → Bool → ℕ) → ((l : Level) (b : Bool) → f l b ≡ g l b) → of_state f ≡ of_state g
 state_same f g same =
     let e = level_same (f Error) (g Error) (same Error) in
     let w = level_same (f Warning) (g Warning) (same Warning) in
@@ -36,7 +36,7 @@ counted_same f g same =
     let o = state_same (f Absent) (g Absent) (same Absent) in
     omega (arith, n, u, p, o)
 
-state_add : (f g : Level → Bool → ℕ) → of_state (λ l b. f l b + g l b) ≡ of_state f + of_state g
+pub state_add : (f g : Level → Bool → ℕ) → of_state (λ l b. f l b + g l b) ≡ of_state f + of_state g
 state_add f g = omega arith
 
 pub counted_add : (f g : Count) → results_counted (λ s l b. f s l b + g s l b) ≡ results_counted f + results_counted g
@@ -53,7 +53,7 @@ side_once : (suppressed : Bool) → of_level (λ b. count_if (same_side b suppre
 side_once true = refl
 side_once false = refl
 
-level_once : (level : Level) (suppressed : Bool) → of_state (λ l b. count_if (same_level l level && same_side b suppressed) 1) ≡ 1
+pub level_once : (level : Level) (suppressed : Bool) → of_state (λ l b. count_if (same_level l level && same_side b suppressed) 1) ≡ 1
 level_once NoLevel suppressed = let once = side_once suppressed in omega (arith, once)
 level_once Note suppressed = let once = side_once suppressed in omega (arith, once)
 level_once Warning suppressed = let once = side_once suppressed in omega (arith, once)

@@ -28,7 +28,7 @@ use Rattle.sarif_log.proofs.Sides.{records_present, taken_long}
 use Rattle.sarif_prepare.specs.By.{copies_if, runs_counted_if, written_if}
 use Rattle.sarif_prepare.specs.Once.{copies_written, current_once, findings_only, leftover_once, limited_once, marks_of_absent, marks_of_runs, states_once, taken_once}
 use Rattle.sarif_inputs.specs.Faults.{faults_of, file_faults, number_faults}
-use Rattle.sarif_inputs.specs.Inputs.{Inputs, all_runs, all_sources, baseline_runs, baseline_sources, input_runs, log_sources}
+use Rattle.sarif_inputs.specs.Inputs.{Inputs, all_runs, all_sources, baseline_runs, baseline_sources, input_runs, log_sources, reading_checks}
 use Rattle.sarif_inputs.specs.SourceFaults.{source_faults}
 use Rattle.sarif_inputs.proofs.ReadFacts.{baseline_sides, log_sides}
 use Rattle.sarif_merge.specs.MergedLog.{file_given, runs_counted, runs_in_log}
@@ -134,4 +134,4 @@ results_together inputs none =
     all_results inputs.checks.matching (file_given inputs) (input_runs inputs) (baseline_runs inputs)
     (objects_in (log_sources inputs)) (objects_in (baseline_sources inputs))
     (faultless_runs inputs none) (faultless_before inputs none)
-    (log_sides inputs.checks 0 inputs.logs) (baseline_sides inputs.checks 0 inputs.baselines) inputs.checks.once
+    (log_sides (reading_checks inputs) 0 inputs.logs) (baseline_sides (reading_checks inputs) 0 inputs.baselines) inputs.checks.once

@@ -40,7 +40,7 @@ total_joined (run ∷ runs) more = let rest = total_joined runs more in omega (a
 
 -- ---- a run with its results
 
-put_long : (ds : List Data) (ms : Members) → length (results_of (object (with_results (Some (items_of ds)) ms))) ≡ length ds
+pub put_long : (ds : List Data) (ms : Members) → length (results_of (object (with_results (Some (items_of ds)) ms))) ≡ length ds
 put_long ds ms =
     ap (λ found. length (elements_or_none (option_and_then as_array found))) (get_member-put (codes "results") (array (items_of ds)) ms)
     ∙ ap length (items_back ds)
@@ -62,7 +62,7 @@ found_long listed rs ss None ms = none_long ms
 found_long listed rs ss (Some ds) ms =
     put_long (written_all listed rs ss (elements ds)) (bare ms) ∙ all_written listed rs ss (elements ds)
 
-run_long : (listed : Listing) (rs : List Record) (ss : List State) (run : Data) → IsObject run
+pub run_long : (listed : Listing) (rs : List Record) (ss : List State) (run : Data) → IsObject run
     → length (results_of (merged_run listed rs ss run)) ≡ length (results_of run)
 run_long listed rs ss null is = absurd is
 run_long listed rs ss (boolean b) is = absurd is
@@ -83,7 +83,7 @@ merged_long listed rs ss (run ∷ runs) are =
 
 -- ---- what is left of a run
 
-left_long : (rs : List Record) (taken : List Bool) (ds : List Data) → length rs ≡ length ds → length taken ≡ length ds
+pub left_long : (rs : List Record) (taken : List Bool) (ds : List Data) → length rs ≡ length ds → length taken ≡ length ds
     → length (unmatched rs taken ds) ≡ unset_in taken
 left_long [] [] [] same_r same_t = refl
 left_long [] (t ∷ taken) [] same_r same_t = absurd (omega (arith, same_t))

@@ -78,7 +78,7 @@ fn named_gate(
     name_if(alloc, gate, places)
 }
 
-/// How many of these there are, if there is a list of them.
+/// Returns the number of copies, if there is a list of them.
 fn count_places(places: &Option<Vec<CopyPlace>>) -> Option<u64>
     ensures { result ≡ option_map length (option_map (λ list. list.items) places.now) }
 {
@@ -88,7 +88,7 @@ fn count_places(places: &Option<Vec<CopyPlace>>) -> Option<u64>
     }
 }
 
-/// What is known of a log before its text is made.
+/// What is known about a log before its text is made.
 #[derive(Drop)]
 struct Weighed {
     counts: Counts,
@@ -96,7 +96,7 @@ struct Weighed {
     copies: Option<u64>,
 }
 
-/// The counts of the results that are written, without the copies where it is known which they are, and the gate.
+/// Returns the counts of the results that are written, without the copies if they are known, and the gate.
 #[tactic(auto, using(crate::proofs::Uncopied::flags_are))]
 fn weigh<R: Threads + Sync>(
     rt: &R,
@@ -104,14 +104,18 @@ fn weigh<R: Threads + Sync>(
     prepared: &Prepared,
     options: &Options,
 ) -> Result<Weighed, AllocError>
-    ensures counts { IfOk result (λ made. (s : Stand) (l : Grade) (b : Bool) → count_at made.counts s l b
+    ensures counts { IfOk result (λ made. (s : Stand) (l : Grade) (b : Bool)
+        → count_at made.counts s l b
         ≡ tallied prepared.now.current.drafts.items
-        (counted_if (current_marks prepared.now.copies) prepared.now.current.states.items) s l b
+        (counted_if (current_marks prepared.now.copies) prepared.now.current.states.items)
+        s l b
         + tallied prepared.now.baseline.drafts.items
-        (counted_if (baseline_marks prepared.now.copies) prepared.now.baseline.states.items) s l b) }
+        (counted_if (baseline_marks prepared.now.copies) prepared.now.baseline.states.items)
+        s l b) }
     ensures gate { IfOk result (λ made. view made.gate
         ≡ naming (places_by prepared.now.copies prepared.now.current prepared.now.baseline)
-        (gate_of (count_at made.counts) options.now.policy prepared.now.without prepared.now.unused)) }
+        (gate_of (count_at made.counts) options.now.policy
+        prepared.now.without prepared.now.unused)) }
     ensures whole { IfOk result (λ made. has_float (view made.gate) ≡ false) }
     ensures copies { IfOk result (λ made. made.copies ≡ option_map length
         (places_by prepared.now.copies prepared.now.current prepared.now.baseline)) }

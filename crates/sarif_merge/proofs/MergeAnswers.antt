@@ -34,7 +34,7 @@ use Rattle.sarif_model.specs.FirstFault.{first}
 use Rattle.sarif_inputs.specs.Faults.{number_faults}
 use Rattle.sarif_entries.specs.Given.{file_or_none}
 use Rattle.sarif_inputs.specs.Internal.Indexes.{AreIndexesOf}
-use Rattle.sarif_inputs.specs.Inputs.{Inputs, numbered, placed}
+use Rattle.sarif_inputs.specs.Inputs.{Inputs, numbered, placed, reading_checks}
 use Rattle.sarif_counts.specs.declared.life.Life.{Life}
 use Rattle.sarif_options.specs.declared.upkeep.Upkeep.{Upkeep}
 use Rattle.sarif_upkeep.specs.Life.{life_faults}
@@ -75,8 +75,8 @@ pub assembled_is : (inputs : Inputs) (policy : Policy) (asked : Option Reporting
 assembled_is inputs policy asked choice upkeep prepared merged ready assembled past =
     let checks = inputs.checks in
     let entries = file_in (file_or_none inputs.suppressions inputs.today) in
-    let logs = placed (numbered inputs.checks Log 0 inputs.logs) in
-    let baselines = placed (numbered inputs.checks Baseline 0 inputs.baselines) in
+    let logs = placed (numbered (reading_checks inputs) Log 0 inputs.logs) in
+    let baselines = placed (numbered (reading_checks inputs) Baseline 0 inputs.baselines) in
     let counted = runs_counted_if checks.once checks.matching entries logs baselines in
     let places = copies_if checks.once checks.matching logs baselines in
     let bare = runs_without_results (run_values logs) in

@@ -36,7 +36,7 @@ use Rattle.sarif_log.proofs.Limits.{limited_at_place, limited_long}
 use Rattle.sarif_log.proofs.Sides.{states_long}
 use Rattle.sarif_inputs.specs.Faults.{faults_of, file_faults, number_faults}
 use Rattle.sarif_entries.specs.Given.{file_or_none}
-use Rattle.sarif_inputs.specs.Inputs.{Inputs, all_runs, all_sources, baseline_runs, input_runs, record_options}
+use Rattle.sarif_inputs.specs.Inputs.{Inputs, all_runs, all_sources, baseline_runs, input_runs, reading_checks, record_options}
 use Rattle.sarif_inputs.specs.SourceFaults.{source_faults}
 use Rattle.sarif_inputs.proofs.ReadFacts.{log_sides, read_alike}
 use Rattle.sarif_merge.specs.MergedLog.{current_of, file_given, limited_of, written_inputs}
@@ -248,7 +248,7 @@ results_same inputs k there =
     ∙ results_written listed own_records own_states (results_of run)
 
 pub own_result : (inputs : Inputs) (k seq : ℕ) → faults_of inputs ≡ [] → IsResult inputs k seq
-    → (r : Record) × (record_of (record_options inputs.checks) (run_at inputs k) seq ≡ Ok r)
+    → (r : Record) × (record_of (record_options (reading_checks inputs)) (run_at inputs k) seq ≡ Ok r)
     × (result_at (written_run inputs k) seq ≡ written_by inputs r (number_among_all inputs k seq) (result_at (run_at inputs k) seq))
 own_result inputs k seq none there =
     let now = input_runs inputs in
@@ -262,9 +262,9 @@ own_result inputs k seq none there =
     let b = results_total (take k runs) in
     let c = length (results_of run) in
     let sound = faultless_runs inputs none in
-    let logs = log_sides inputs.checks 0 inputs.logs in
-    let alike = read_alike inputs.checks Log 0 inputs.logs in
-    let own = record_at (record_options inputs.checks) now k seq sound logs alike there.0 there.1 in
+    let logs = log_sides (reading_checks inputs) 0 inputs.logs in
+    let alike = read_alike (reading_checks inputs) Log 0 inputs.logs in
+    let own = record_at (record_options (reading_checks inputs)) now k seq sound logs alike there.0 there.1 in
     let r = own.0 in
     let q = with_spent r (spent_at inputs (b + seq)) in
     let s = state_in inputs.checks.matching r (partner_at inputs (b + seq)) in

@@ -1,5 +1,5 @@
 -- What each step of a merge makes, from what its calls give.
-use Rattle.std.proofs.Common.{◌≡◌, ℕ, ◌≤◌, ◌+◌, ◌++◌, ◌⊎◌, List, [], true, false, Option, Some, Result, Ok, Vec, Global, inl, inr, length, map, arith, refl, sym, ap, subst, ◌∙◌, append-nil}
+use Rattle.std.proofs.Common.{◌≡◌, ℕ, ◌≤◌, ◌+◌, ◌++◌, ◌⊎◌, List, [], ◌||◌, true, false, Option, Some, Result, Ok, Vec, Global, inl, inr, length, map, arith, refl, sym, ap, subst, ◌∙◌, append-nil}
 use Rattle.std.proofs.lemmas.List.{length-map}
 use Rattle.std.specs.Prelude.{Bool}
 use Rattle.std.specs.List.{AllByRecursion}
@@ -26,7 +26,10 @@ use Rattle.sarif_results.specs.declared.judged.Judged.{Judged}
 use Rattle.sarif_inputs.specs.Faults.{faults_of, file_faults}
 use Rattle.sarif_entries.specs.Given.{file_or_none}
 use Rattle.sarif_inputs.specs.Internal.Indexes.{AreIndexesOf}
-use Rattle.sarif_inputs.specs.Inputs.{all_runs, all_sources, baseline_runs, input_runs, numbered}
+use Rattle.sarif_inputs.specs.Inputs.{all_runs, all_sources, baseline_runs, input_runs, numbered, placed, reading_checks}
+use Rattle.sarif_inputs.specs.Internal.ReadSoFar.{sources_of}
+use Rattle.sarif_inputs.specs.Snippets.{compares_snippets, with_regions_if}
+use Rattle.sarif_inputs.proofs.ReadAgain.{faults_read, length_read, regions_read, values_read}
 use Rattle.sarif_inputs.specs.Internal.Runs.{AreRunsOf}
 use Rattle.sarif_inputs.specs.SourceFaults.{source_faults}
 use Rattle.sarif_inputs.specs.declared.sources.Runs.{Runs}
@@ -47,7 +50,7 @@ use Rattle.sarif_upkeep.specs.Life.{life_faults}
 use Rattle.sarif_merge.specs.Life.{IsLifeOf, IsRefusal}
 use Rattle.sarif_merge.specs.Merged.{IsMerged}
 use Rattle.sarif_merge.specs.MergedLog.{file_given, file_in}
-use Rattle.sarif_merge.specs.Internal.Steps.{AreBaselinesJudged, AreBaselinesOpened, AreIndexesIn, AreLogsJudged, AreLogsOpened, AreLogsSound, AreOpened, IsFileIn, IsMergeOf, IsReady, IsRead, IsRejection, checks_in, inputs_in, policy_in}
+use Rattle.sarif_merge.specs.Internal.Steps.{AreBaselinesJudged, AreBaselinesOpened, AreBaselinesReady, AreIndexesIn, AreLogsJudged, AreLogsOpened, AreLogsReady, AreLogsSound, AreOpened, IsFileIn, IsMergeOf, IsReady, IsRead, IsRejection, checks_in, inputs_in, policy_in}
 use Rattle.sarif_merge.specs.declared.steps.Merging.{Merging}
 use Rattle.sarif_merge.proofs.ReadObjects.{objects_in}
 use Rattle.sarif_merge.proofs.MergeAnswers.{are_indexes, assembled_is, faults_apart, left_after_first, number_is_no_fault, same_kept, same_large, same_runs}
@@ -107,19 +110,32 @@ after_sources m few_logs few_baselines =
     number_is_no_fault inputs.logs inputs.baselines few_logs few_baselines
     (source_faults 0 0 (all_sources inputs) ++ (file_faults (file_or_none inputs.suppressions inputs.today) ++ faults_of_runs (all_runs inputs)))
 
+-- regions change no error of the sources
+sources_alike : (m : Merging) → source_faults 0 0 (sources_of (checks_in m) (inputs_in m).logs (inputs_in m).baselines) ≡ source_faults 0 0 (all_sources (inputs_in m))
+sources_alike m =
+    let inputs = inputs_in m in
+    let once = inputs.snippets || inputs.checks.once in
+    faults_read once inputs.checks Log 0 inputs.logs (numbered inputs.checks Baseline 0 inputs.baselines) (numbered (reading_checks inputs) Baseline 0 inputs.baselines)
+    (λ runs results. sym (ap (source_faults runs results) (append-nil (numbered inputs.checks Baseline 0 inputs.baselines)))
+    ∙ faults_read once inputs.checks Baseline 0 inputs.baselines [] [] (λ _ _. refl) runs results
+    ∙ ap (source_faults runs results) (append-nil (numbered (reading_checks inputs) Baseline 0 inputs.baselines)))
+    0 0
+
 pub sources_read : (m : Merging) (runs : Runs) → AreRunsOf (inputs_in m).checks (inputs_in m).logs (inputs_in m).baselines runs → IsRead m
 unfolding IsRead
 sources_read m runs read =
     let rest = file_faults (file_or_none (inputs_in m).suppressions (inputs_in m).today) ++ faults_of_runs (all_runs (inputs_in m)) in
-    after_sources m read.few_logs read.few_baselines ∙ ap (λ faults. faults ++ rest) read.faultless
+    after_sources m read.few_logs read.few_baselines ∙ ap (λ faults. faults ++ rest) (sym (sources_alike m) ∙ read.faultless)
 
 pub rejected_sources : (m : Merging) (indexes : List (Result (List Token) IndexFault)) (fault : MergeFault) → AreIndexesIn m indexes
-    → IsOutOfResources fault ⊎ (first (source_faults 0 0 (all_sources (inputs_in m))) ≡ Some fault) → exit_status fault.cause ≡ 2 → IsRejection m fault
+    → IsOutOfResources fault ⊎ (first (source_faults 0 0 (sources_of (checks_in m) (inputs_in m).logs (inputs_in m).baselines)) ≡ Some fault)
+    → exit_status fault.cause ≡ 2 → IsRejection m fault
 unfolding AreIndexesIn
 rejected_sources m indexes fault are found quiet =
     rejected_by m (source_faults 0 0 (all_sources (inputs_in m)))
     (file_faults (file_or_none (inputs_in m).suppressions (inputs_in m).today) ++ faults_of_runs (all_runs (inputs_in m))) fault
-    (after_sources m are.few_logs are.few_baselines) found quiet
+    (after_sources m are.few_logs are.few_baselines)
+    (subst (λ faults. IsOutOfResources fault ⊎ (first faults ≡ Some fault)) (sources_alike m) found) quiet
 
 -- ---- read the suppression file
 
@@ -138,14 +154,49 @@ rejected_file m bytes fault read is_bytes found quiet =
     rejected_by m (file_faults (file_or_none (inputs_in m).suppressions (inputs_in m).today)) (faults_of_runs (all_runs (inputs_in m))) fault read
     (subst (λ b. IsOutOfResources fault ⊎ (first (file_faults (file_or_none b (inputs_in m).today)) ≡ Some fault)) is_bytes found) quiet
 
+-- ---- read snippets
+
+-- runs with regions and snippets, if an entry compares snippets
+ready_side : (wanted : Bool) (before after : List Placed) (old new : List OpenedRun) → AreOpened before old
+    → map placed_of new ≡ with_regions_if wanted (map placed_of old) → with_regions_if wanted before ≡ after → AreOpened after new
+ready_side wanted before after old new opened made are =
+    let long : length new ≡ length old =
+    sym (length-map new placed_of) ∙ ap length made ∙ length_read wanted (map placed_of old) ∙ length-map old placed_of in
+    record {
+      are = made ∙ ap (with_regions_if wanted) opened.are ∙ are;
+      few = omega (arith, long, opened.few);
+      few_results = subst (λ ds. results_total ds ≤ most_results) (sym (ap run_values made ∙ values_read wanted (map placed_of old))) opened.few_results;
+    }
+
+-- whether an entry of the file compares snippets
+snippets_in : (m : Merging) (file : File) → IsFileIn m file → compares_snippets file ≡ (inputs_in m).snippets
+unfolding IsFileIn
+snippets_in m file read = ap (λ r. compares_snippets (file_in r)) (sym read.0)
+
+pub logs_ready : (m : Merging) (file : File) (old new : List OpenedRun) → AreLogsOpened m old → IsFileIn m file
+    → map placed_of new ≡ with_regions_if (compares_snippets file) (map placed_of old) → AreLogsReady m new
+unfolding AreLogsOpened AreLogsReady
+logs_ready m file old new opened read made =
+    let inputs = inputs_in m in
+    ready_side inputs.snippets (placed (numbered inputs.checks Log 0 inputs.logs)) (input_runs inputs) old new opened
+    (made ∙ ap (λ b. with_regions_if b (map placed_of old)) (snippets_in m file read)) (regions_read inputs.snippets inputs.checks Log 0 inputs.logs)
+
+pub baselines_ready : (m : Merging) (file : File) (old new : List OpenedRun) → AreBaselinesOpened m old → IsFileIn m file
+    → map placed_of new ≡ with_regions_if (compares_snippets file) (map placed_of old) → AreBaselinesReady m new
+unfolding AreBaselinesOpened AreBaselinesReady
+baselines_ready m file old new opened read made =
+    let inputs = inputs_in m in
+    ready_side inputs.snippets (placed (numbered inputs.checks Baseline 0 inputs.baselines)) (baseline_runs inputs) old new opened
+    (made ∙ ap (λ b. with_regions_if b (map placed_of old)) (snippets_in m file read)) (regions_read inputs.snippets inputs.checks Baseline 0 inputs.baselines)
+
 -- ---- judge
 
-pub are_opened_logs : (m : Merging) (runs : List OpenedRun) → AreLogsOpened m runs → AreOpened (input_runs (inputs_in m)) runs
-unfolding AreLogsOpened
+pub are_opened_logs : (m : Merging) (runs : List OpenedRun) → AreLogsReady m runs → AreOpened (input_runs (inputs_in m)) runs
+unfolding AreLogsReady
 are_opened_logs m runs opened = opened
 
-pub are_opened_baselines : (m : Merging) (runs : List OpenedRun) → AreBaselinesOpened m runs → AreOpened (baseline_runs (inputs_in m)) runs
-unfolding AreBaselinesOpened
+pub are_opened_baselines : (m : Merging) (runs : List OpenedRun) → AreBaselinesReady m runs → AreOpened (baseline_runs (inputs_in m)) runs
+unfolding AreBaselinesReady
 are_opened_baselines m runs opened = opened
 
 -- the suppression file is the one that the definitions read
@@ -174,41 +225,41 @@ judged_side m baseline wanted runs file judged sides objects opened read same ou
     } in
     (are, subst (λ f. IsJudged f baseline judged) (same_file m file read) made)
 
-pub logs_judged : (m : Merging) (runs : List OpenedRun) (file : File) (judged : Judged) → AreLogsOpened m runs → IsFileIn m file
+pub logs_judged : (m : Merging) (runs : List OpenedRun) (file : File) (judged : Judged) → AreLogsReady m runs → IsFileIn m file
     → placed_in judged ≡ map placed_of runs
     → judged.outcomes.items ≡ all_outcomes file (placed_in judged) → faults_of_runs (map placed_of runs) ≡ [] → AreLogsJudged m judged
-unfolding AreLogsOpened AreLogsJudged
+unfolding AreLogsReady AreLogsJudged
 logs_judged m runs file judged opened read same outcomes none =
-    let checks = (inputs_in m).checks in
+    let checks = reading_checks (inputs_in m) in
     let logs = (inputs_in m).logs in
     judged_side m false (input_runs (inputs_in m)) runs file judged (log_sides checks 0 logs) (objects_in (numbered checks Log 0 logs))
     opened read same outcomes none
 
-pub logs_sound : (m : Merging) (runs : List OpenedRun) → AreLogsOpened m runs → faults_of_runs (map placed_of runs) ≡ [] → AreLogsSound m
-unfolding AreLogsOpened AreLogsSound
+pub logs_sound : (m : Merging) (runs : List OpenedRun) → AreLogsReady m runs → faults_of_runs (map placed_of runs) ≡ [] → AreLogsSound m
+unfolding AreLogsReady AreLogsSound
 logs_sound m runs opened none = ap faults_of_runs (sym opened.are) ∙ none
 
-pub rejected_logs : (m : Merging) (runs : List OpenedRun) (file : File) (fault : MergeFault) → AreLogsOpened m runs → IsFileIn m file
+pub rejected_logs : (m : Merging) (runs : List OpenedRun) (file : File) (fault : MergeFault) → AreLogsReady m runs → IsFileIn m file
     → IsOutOfResources fault ⊎ (first (faults_of_runs (map placed_of runs)) ≡ Some fault) → exit_status fault.cause ≡ 2 → IsRejection m fault
-unfolding AreLogsOpened IsFileIn
+unfolding AreLogsReady IsFileIn
 rejected_logs m runs file fault opened read found quiet =
     rejected_by m (faults_of_runs (input_runs (inputs_in m))) (faults_of_runs (baseline_runs (inputs_in m))) fault
     (read.1 ∙ faults_apart (input_runs (inputs_in m)) (baseline_runs (inputs_in m)))
     (subst (λ ps. IsOutOfResources fault ⊎ (first (faults_of_runs ps) ≡ Some fault)) opened.are found) quiet
 
-pub baselines_judged : (m : Merging) (runs : List OpenedRun) (file : File) (judged : Judged) → AreBaselinesOpened m runs → IsFileIn m file
+pub baselines_judged : (m : Merging) (runs : List OpenedRun) (file : File) (judged : Judged) → AreBaselinesReady m runs → IsFileIn m file
     → placed_in judged ≡ map placed_of runs
     → judged.outcomes.items ≡ all_outcomes file (placed_in judged) → faults_of_runs (map placed_of runs) ≡ [] → AreBaselinesJudged m judged
-unfolding AreBaselinesOpened AreBaselinesJudged
+unfolding AreBaselinesReady AreBaselinesJudged
 baselines_judged m runs file judged opened read same outcomes none =
-    let checks = (inputs_in m).checks in
+    let checks = reading_checks (inputs_in m) in
     let baselines = (inputs_in m).baselines in
     judged_side m true (baseline_runs (inputs_in m)) runs file judged (baseline_sides checks 0 baselines) (objects_in (numbered checks Baseline 0 baselines))
     opened read same outcomes none
 
-pub rejected_baselines : (m : Merging) (runs : List OpenedRun) (file : File) (fault : MergeFault) → AreBaselinesOpened m runs → IsFileIn m file → AreLogsSound m
+pub rejected_baselines : (m : Merging) (runs : List OpenedRun) (file : File) (fault : MergeFault) → AreBaselinesReady m runs → IsFileIn m file → AreLogsSound m
     → IsOutOfResources fault ⊎ (first (faults_of_runs (map placed_of runs)) ≡ Some fault) → exit_status fault.cause ≡ 2 → IsRejection m fault
-unfolding AreBaselinesOpened AreLogsSound IsFileIn
+unfolding AreBaselinesReady AreLogsSound IsFileIn
 rejected_baselines m runs file fault opened read sound found quiet =
     rejected_by m (faults_of_runs (baseline_runs (inputs_in m))) [] fault
     (read.1 ∙ left_after_first (input_runs (inputs_in m)) (baseline_runs (inputs_in m)) sound ∙ sym (append-nil _))

@@ -70,7 +70,7 @@ IsTooLargeWith contents options choice upkeep fault =
     IsTooLarge (given_by contents options) options.policy choice upkeep fault
 
 -- a rejection before anything is written, of a merge with what is for later merges: after the errors of the inputs
--- comes what is too large to be read again
+-- comes the first error of what was requested for later merges
 abbrev pub IsRefusedWith : {R : Type 0} → (R → Option (List ℕ)) → Readers R → Readers R
     → Options → Option Choosing → Option Upkeep → MergeFault → Type 0
 IsRefusedWith remaining old new options choice upkeep fault =

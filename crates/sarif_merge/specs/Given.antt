@@ -2,11 +2,15 @@
 use Rattle.std.specs.Prelude.{ℕ, Option}
 use Rattle.sarif_streams.specs.declared.readers.SourceBytes.{SourceBytes}
 use Rattle.sarif_streams.specs.WereRead.{SourceContents, contents_of}
+use Rattle.sarif_entries.specs.Given.{file_or_none}
 use Rattle.sarif_inputs.specs.Inputs.{Inputs}
+use Rattle.sarif_inputs.specs.Snippets.{compares_snippets}
+use Rattle.sarif_merge.specs.MergedLog.{file_in}
 use Rattle.sarif_options.specs.declared.checks.Checks.{Checks}
 use Rattle.sarif_options.specs.declared.options.Options.{Options}
 
--- the inputs of a merge of these sources, with today's date and what is required of runs
+-- the inputs of a merge of these sources, with today's date and what is required of runs; records have regions and
+-- snippets if an entry of the suppression file compares snippets
 abbrev pub inputs_with : SourceContents → Option ℕ → Checks → Inputs
 inputs_with contents today checks =
     record {
@@ -15,6 +19,7 @@ inputs_with contents today checks =
       suppressions = contents.suppressions;
       today = today;
       checks = checks;
+      snippets = compares_snippets (file_in (file_or_none contents.suppressions today));
     }
 
 -- the inputs of a merge of these sources under these options

@@ -17,7 +17,7 @@ use Rattle.sarif_merge.specs.MergedLog.{file_given}
 -- the merge of these inputs under this policy, if each result is counted
 abbrev pub merge_in : Inputs → Policy → Merge
 merge_in inputs policy =
-    merge_of inputs.checks.matching (file_given inputs) inputs.suppressions policy
+    merge_of inputs.checks (file_given inputs) inputs.suppressions policy
     (input_runs inputs) (baseline_runs inputs)
 
 -- the merge of the results that are counted, with the choice of hits if there is one

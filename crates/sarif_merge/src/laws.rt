@@ -11,7 +11,7 @@ ghost use Rattle.sarif_entries.specs.File.{File};
 ghost use Rattle.sarif_log.specs.MergedRuns.{absent_runs, merged_runs};
 ghost use Rattle.sarif_log.specs.LogBy.{listing_of};
 ghost use Rattle.sarif_inputs.specs.Faults.{faults_of};
-ghost use Rattle.sarif_inputs.specs.Inputs.{Inputs, input_runs, record_options};
+ghost use Rattle.sarif_inputs.specs.Inputs.{Inputs, input_runs, reading_checks, record_options};
 ghost use Rattle.sarif_merge.specs.MergedLog.{runs_written, written_inputs};
 ghost use Rattle.sarif_merge.specs.OwnResult.{IsResult, number_among_all, run_at, written_by, written_run};
 
@@ -48,7 +48,7 @@ pub fn each_result_is_written_as_its_own()
         → length (results_of (written_run inputs k)) ≡ length (results_of (run_at inputs k)) }
     ensures own { (inputs : Inputs) (k seq : ℕ) → faults_of inputs ≡ [] → IsResult inputs k seq
         → (r : Record)
-        × (record_of (record_options inputs.checks) (run_at inputs k) seq ≡ Ok r)
+        × (record_of (record_options (reading_checks inputs)) (run_at inputs k) seq ≡ Ok r)
         × (result_at (written_run inputs k) seq
         ≡ written_by inputs r (number_among_all inputs k seq) (result_at (run_at inputs k) seq)) }
 {}

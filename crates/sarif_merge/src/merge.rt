@@ -43,7 +43,7 @@ fn judge_few<G: Gate + Sync, R: Threads + Wait + Sync>(
     ensures prepared { IfOk result (IsReady merging.now) }
     ensures refused { IfErr result (IsRejection merging.now) }
 {
-    let Runs { current, baseline } = runs;
+    let Runs { current, baseline } = merging.read_snippets(runs, file);
     let logs = merging.judge_logs(rt, alloc, current, file, observer)?;
     let baselines = merging.judge_baselines(rt, alloc, baseline, file, observer)?;
     merging.prepare(rt, alloc, logs, baselines, file)

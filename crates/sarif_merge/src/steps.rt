@@ -8,7 +8,7 @@ ghost use Rattle.sarif_model.specs.Limits.{most_sources};
 use json::Scratch;
 use json_parts::{Index, IndexFault};
 use sarif_gather::Gate;
-use sarif_inputs::{Opening, Runs, index_sources, open_sources, read_file};
+use sarif_inputs::{Opening, Runs, index_sources, open_sources, read_file, read_snippets};
 use sarif_judge::{Team, judge_runs};
 use sarif_log::{Facts, Merged, Prepared, assemble};
 use sarif_model::MergeFault;
@@ -49,7 +49,7 @@ pub(crate) struct Merging<'m, 'o: 'm> {
 impl<'m, 'o: 'm> Merging<'m, 'o> {
     ghost use Rattle.std.specs.Prelude.{◌≡◌, ◌≤◌, ◌+◌, Ok, length, IfOk, IfErr, OnOk};
     ghost use Rattle.sarif_log.specs.Beside.{IsMadeBy};
-    ghost use Rattle.sarif_merge.specs.Internal.Steps.{AreBaselinesJudged, AreBaselinesOpened, AreIndexesIn, AreLogsJudged, AreLogsOpened, AreLogsSound, IsFileIn, IsMergeOf, IsReady, IsRead, IsRejection};
+    ghost use Rattle.sarif_merge.specs.Internal.Steps.{AreBaselinesJudged, AreBaselinesOpened, AreBaselinesReady, AreIndexesIn, AreLogsJudged, AreLogsOpened, AreLogsReady, AreLogsSound, IsFileIn, IsMergeOf, IsReady, IsRead, IsRejection};
     ghost use Rattle.sarif_model.specs.Limits.{most_sources};
 
     /// A scratch for each source, in which it is indexed.
@@ -122,6 +122,27 @@ impl<'m, 'o: 'm> Merging<'m, 'o> {
         Ok(file)
     }
 
+    /// Has the results of these runs read with their snippets, if an entry of the suppression file compares snippets.
+    pub(crate) fn read_snippets<'t, 'a>(
+        &self,
+        runs: Runs<'t, 'a>,
+        file: &Suppressions,
+    ) -> Runs<'t, 'a>
+        requires logs { AreLogsOpened self.now runs.current.items }
+        requires baselines { AreBaselinesOpened self.now runs.baseline.items }
+        requires file { IsFileIn self.now file.now }
+        ensures logs { AreLogsReady self.now result.current.items }
+        ensures baselines { AreBaselinesReady self.now result.baseline.items }
+    {
+        let Runs {
+            mut current,
+            mut baseline,
+        } = runs;
+        read_snippets(file, &mut current);
+        read_snippets(file, &mut baseline);
+        Runs { current, baseline }
+    }
+
     /// Has workers judge the results of the logs.
     pub(crate) fn judge_logs<'t, 'a, G: Gate + Sync, R: Threads + Wait + Sync>(
         &self,
@@ -131,7 +152,7 @@ impl<'m, 'o: 'm> Merging<'m, 'o> {
         file: &Suppressions,
         observer: &G,
     ) -> Result<Judged<'t, 'a>, MergeFault>
-        requires runs { AreLogsOpened self.now runs.items }
+        requires runs { AreLogsReady self.now runs.items }
         requires file { IsFileIn self.now file.now }
         ensures judged { IfOk result (AreLogsJudged self.now) }
         ensures sound { OnOk result (AreLogsSound self.now) }
@@ -151,7 +172,7 @@ impl<'m, 'o: 'm> Merging<'m, 'o> {
         file: &Suppressions,
         observer: &G,
     ) -> Result<Judged<'t, 'a>, MergeFault>
-        requires runs { AreBaselinesOpened self.now runs.items }
+        requires runs { AreBaselinesReady self.now runs.items }
         requires file { IsFileIn self.now file.now }
         requires logs { AreLogsSound self.now }
         ensures judged { IfOk result (AreBaselinesJudged self.now) }

@@ -35,13 +35,13 @@ counted_once checks file now before asked one prepared h =
     subst (λ once. IsPreparedIf once checks.matching file now before asked prepared) (sym one) h
 
 pub merge_all : (checks : Checks) (file : File) (bytes : Option (List ℕ)) (policy : Policy) (choice : Option Choosing) (now before : List Placed)
-    → checks.once ≡ false → chosen_merge checks.matching file bytes policy choice now before ≡ merge_by checks file bytes policy choice now before
+    → checks.once ≡ false → chosen_merge checks file bytes policy choice now before ≡ merge_by checks file bytes policy choice now before
 merge_all checks file bytes policy choice now before all =
-    sym (ap (λ once. chosen_merge checks.matching file bytes policy choice (counted_if once now) (counted_if once before)) all)
+    sym (ap (λ once. chosen_merge checks file bytes policy choice (counted_if once now) (counted_if once before)) all)
 
 pub merge_once : (checks : Checks) (file : File) (bytes : Option (List ℕ)) (policy : Policy) (choice : Option Choosing) (now before : List Placed)
     → checks.once ≡ true
-    → chosen_merge checks.matching file bytes policy choice (without_copies now) (without_copies before)
+    → chosen_merge checks file bytes policy choice (without_copies now) (without_copies before)
     ≡ merge_by checks file bytes policy choice now before
 merge_once checks file bytes policy choice now before one =
-    sym (ap (λ once. chosen_merge checks.matching file bytes policy choice (counted_if once now) (counted_if once before)) one)
+    sym (ap (λ once. chosen_merge checks file bytes policy choice (counted_if once now) (counted_if once before)) one)

@@ -1,5 +1,5 @@
 -- The matched merge, as what is made for later merges sees it.
-use Rattle.std.proofs.Common.{◌≡◌, ◌⊎◌, inl, inr, ◌+◌, ◌++◌, ℕ, suc, List, [], ◌∷◌, Option, Some, None, map, length, length-append, refl, sym, ap, ◌∙◌, arith}
+use Rattle.std.proofs.Common.{◌≡◌, ◌⊎◌, inl, inr, ◌+◌, ◌++◌, ℕ, suc, Bool, List, [], ◌∷◌, Option, Some, None, map, length, length-append, refl, sym, ap, ◌∙◌, arith}
 use Rattle.serde_json.specs.Data.{Data}
 use Rattle.sarif_model.specs.declared.record.Record.{Record}
 use Rattle.sarif_model.specs.Run.{present, results_of}
@@ -8,6 +8,7 @@ use Rattle.sarif_match.specs.Partners.{partners_in}
 use Rattle.std.specs.Prelude.{flat_map, option_map, unwrap_or, IfSome}
 use Rattle.sarif_model.specs.declared.kinds.State.{State}
 use Rattle.sarif_model.specs.declared.kinds.State.TheVariants.{New}
+use Rattle.sarif_options.specs.declared.checks.Checks.{Checks}
 use Rattle.sarif_options.specs.declared.policy.Policy.{Policy}
 use Rattle.sarif_entries.specs.File.{File}
 use Rattle.sarif_runs.specs.Internal.Opened.{placed_of}
@@ -15,6 +16,7 @@ use Rattle.sarif_runs.specs.Judging.{records_of, run_values}
 use Rattle.sarif_runs.specs.Placed.{Placed}
 use Rattle.sarif_results.specs.declared.draft.Draft.{Draft}
 use Rattle.sarif_results.specs.Drafts.{applied_of, drafts_by, Listing}
+use Rattle.sarif_known.specs.Chosen.{knows_regions}
 use Rattle.sarif_upkeep.specs.Internal.IsMatched.{IsFileOf, IsMatched}
 use Rattle.sarif_upkeep.specs.Life.{files_faults, if_misfit, no_hit}
 use Rattle.sarif_upkeep.specs.Merge.{present_counts, present_total, Merge}
@@ -27,7 +29,7 @@ use Rattle.sarif_prepare.specs.declared.baselines.Baselines.{Baselines}
 use Rattle.sarif_prepare.specs.declared.halves.Half.{Half}
 use Rattle.sarif_prepare.specs.declared.pairing.Paired.{Paired}
 use Rattle.sarif_prepare.specs.Internal.LeftParts.{present_counts as placed_counts}
-use Rattle.sarif_prepare.specs.Chosen.{chosen_merge, hits_alone, marks_in, misfit_in, with_choice}
+use Rattle.sarif_prepare.specs.Chosen.{checked_merge, chosen_merge, hits_alone, marks_in, misfit_in, with_choice}
 use Rattle.sarif_prepare.specs.Kept.{merge_of, standings_from, standings_of, IsUnkept}
 use Rattle.sarif_choice.specs.declared.choice.Choosing.{Choosing}
 use Rattle.sarif_prepare.proofs.MarkedSides.{marks_long}
@@ -62,19 +64,19 @@ counts_are [] = refl
 counts_are (p ∷ ps) = ap (λ l. length (present (results_of p.run)) ∷ l) (counts_are ps)
 
 -- the value that is passed on is that of the merge
-matched_is : (version : MatchingVersion) (file : File) (bytes : Option (List ℕ)) (policy : Policy) (marks : Marks) (misfit : Option At)
+matched_is : (checks : Checks) (file : File) (bytes : Option (List ℕ)) (policy : Policy) (marks : Marks) (misfit : Option At)
     (now before : List Placed) (c : Half) (b : Baselines) (p : Paired) (matched : Matched)
-    → AreTogether file now before c b → IsPaired version c b p → IsFileOf bytes file
+    → AreTogether file now before c b → IsPaired checks.matching c b p → IsFileOf bytes file
     → matched.file.now ≡ file → option_map (λ x. x.now) matched.bytes ≡ bytes → matched.policy ≡ policy
-    → matched.matching ≡ version
+    → matched.matching ≡ checks.matching → matched.once ≡ checks.once → matched.regions ≡ knows_regions checks.matching checks.once
     → option_map (λ x. x.now) matched.chosen ≡ marks → IfSome marks (λ ms. length ms ≡ length (limited_records file now)) → misfit ≡ None
     → matched.current.runs.now ≡ c.runs.items → matched.current.records.now ≡ c.records.items → matched.current.drafts.now ≡ c.drafts.items
-    → matched.current.states.now ≡ states_of version (map unspent c.records.items) b.records.items
+    → matched.current.states.now ≡ states_of checks.matching (map unspent c.records.items) b.records.items
     → matched.current.standings.now ≡ p.standings.items
     → matched.before.runs.now ≡ b.runs.items → matched.before.counts.now ≡ b.counts.items → matched.before.records.now ≡ b.records.items
     → matched.before.taken.now ≡ p.taken.items
-    → IsMatched (with_choice (merge_of version file bytes policy now before) marks misfit) matched
-matched_is version file bytes policy marks misfit now before c b p matched h q read file_is bytes_are policy_is matching_is marks_are marks_many fits runs_are records_are drafts_are states_are standings_are old_runs_are
+    → IsMatched (with_choice (checked_merge checks file bytes policy now before) marks misfit) matched
+matched_is checks file bytes policy marks misfit now before c b p matched h q read file_is bytes_are policy_is matching_is once_is regions_is marks_are marks_many fits runs_are records_are drafts_are states_are standings_are old_runs_are
     counts_is known_are taken_is =
     let rs = records_of now in
     let bs = records_of before in
@@ -84,6 +86,8 @@ matched_is version file bytes policy marks misfit now before c b p matched h q r
       read = read;
       policy = policy_is;
       matching = matching_is;
+      once = once_is;
+      regions = regions_is;
       chosen = marks_are;
       chosen_long = marks_many;
       fits = fits;
@@ -93,46 +97,46 @@ matched_is version file bytes policy marks misfit now before c b p matched h q r
         drafts =
             ap (map (λ (draft : Draft). draft.applied)) (drafts_are ∙ h.is_current.drafts)
             ∙ applied_are (listing_of file) file (limited_records file now) (flat_map results_of (run_values now)) (limited_results file now h.current_records);
-        states = states_are ∙ ap (λ l. states_of version l b.records.items) (matched_records file now c h.is_current) ∙ ap (states_of version rs) h.are_baselines.records;
-        standings = standings_are ∙ q.standings ∙ ap (λ l. standings_of version l b.records.items) (matched_records file now c h.is_current)
-            ∙ ap (standings_of version rs) h.are_baselines.records;
+        states = states_are ∙ ap (λ l. states_of checks.matching l b.records.items) (matched_records file now c h.is_current) ∙ ap (states_of checks.matching rs) h.are_baselines.records;
+        standings = standings_are ∙ q.standings ∙ ap (λ l. standings_of checks.matching l b.records.items) (matched_records file now c h.is_current)
+            ∙ ap (standings_of checks.matching rs) h.are_baselines.records;
         records_long = limited_total file now h.current_records;
-        states_long = states_long version bs (partners_in version rs bs) 0 rs ∙ sym (limited_long file rs);
-        standings_long = standings_long version bs (partners_in version rs bs) 0 rs ∙ sym (limited_long file rs);
+        states_long = states_long checks.matching bs (partners_in checks.matching rs bs) 0 rs ∙ sym (limited_long file rs);
+        standings_long = standings_long checks.matching bs (partners_in checks.matching rs bs) 0 rs ∙ sym (limited_long file rs);
         few = let many = limited_long file rs in omega (arith, many, h.few_current);
       };
       before = record {
         runs = ap (λ all. run_values (map placed_of all)) old_runs_are ∙ ap run_values h.are_baselines.opened;
         counts = counts_is ∙ h.are_baselines.counts ∙ counts_are before;
         records = known_are ∙ h.are_baselines.records;
-        taken = taken_is ∙ q.taken ∙ ap (λ l. taken_of version l b.records.items) (matched_records file now c h.is_current) ∙ ap (taken_of version rs) h.are_baselines.records;
+        taken = taken_is ∙ q.taken ∙ ap (λ l. taken_of checks.matching l b.records.items) (matched_records file now c h.is_current) ∙ ap (taken_of checks.matching rs) h.are_baselines.records;
         records_long = h.are_baselines.count ∙ present_sum (run_values before);
-        taken_long = taken_long version rs bs;
+        taken_long = taken_long checks.matching rs bs;
         few = h.few_baseline;
       };
     }
 
 -- the value is that of the merge with the choice of hits, if there is one
-pub matched_chosen : (version : MatchingVersion) (file : File) (bytes : Option (List ℕ)) (policy : Policy) (choice : Option Choosing) (now before : List Placed)
+pub matched_chosen : (checks : Checks) (file : File) (bytes : Option (List ℕ)) (policy : Policy) (choice : Option Choosing) (now before : List Placed)
     (c : Half) (b : Baselines) (p : Paired) (matched : Matched)
-    → AreTogether file now before c b → IsPaired version c b p → IsFileOf bytes file
+    → AreTogether file now before c b → IsPaired checks.matching c b p → IsFileOf bytes file
     → matched.file.now ≡ file → option_map (λ x. x.now) matched.bytes ≡ bytes → matched.policy ≡ policy
-    → matched.matching ≡ version
-    → option_map (λ x. x.now) matched.chosen ≡ (chosen_merge version file bytes policy choice now before).chosen
-    → (chosen_merge version file bytes policy choice now before).misfit ≡ None
+    → matched.matching ≡ checks.matching → matched.once ≡ checks.once → matched.regions ≡ knows_regions checks.matching checks.once
+    → option_map (λ x. x.now) matched.chosen ≡ (chosen_merge checks file bytes policy choice now before).chosen
+    → (chosen_merge checks file bytes policy choice now before).misfit ≡ None
     → matched.current.runs.now ≡ c.runs.items → matched.current.records.now ≡ c.records.items → matched.current.drafts.now ≡ c.drafts.items
-    → matched.current.states.now ≡ states_of version (map unspent c.records.items) b.records.items
+    → matched.current.states.now ≡ states_of checks.matching (map unspent c.records.items) b.records.items
     → matched.current.standings.now ≡ p.standings.items
     → matched.before.runs.now ≡ b.runs.items → matched.before.counts.now ≡ b.counts.items → matched.before.records.now ≡ b.records.items
     → matched.before.taken.now ≡ p.taken.items
-    → IsMatched (chosen_merge version file bytes policy choice now before) matched
-matched_chosen version file bytes policy None now before c b p matched h q read file_is bytes_are policy_is matching_is marks_are fits =
-    matched_is version file bytes policy None None now before c b p matched h q read file_is bytes_are policy_is matching_is marks_are tt fits
-matched_chosen version file bytes policy (Some choosing) now before c b p matched h q read file_is bytes_are policy_is matching_is marks_are fits =
+    → IsMatched (chosen_merge checks file bytes policy choice now before) matched
+matched_chosen checks file bytes policy None now before c b p matched h q read file_is bytes_are policy_is matching_is once_is regions_is marks_are fits =
+    matched_is checks file bytes policy None None now before c b p matched h q read file_is bytes_are policy_is matching_is once_is regions_is marks_are tt fits
+matched_chosen checks file bytes policy (Some choosing) now before c b p matched h q read file_is bytes_are policy_is matching_is once_is regions_is marks_are fits =
     let hits = hits_alone policy choosing.roots in
-    matched_is version file bytes policy (Some (marks_in hits choosing.choice (current_runs version file now before)))
-    (misfit_in hits choosing.choice (runs_by version file now before)) now before c b p matched h q read file_is bytes_are policy_is matching_is marks_are
-    (marks_long version hits choosing.choice file now before c b p h q ∙ sym (limited_long file (records_of now))) fits
+    matched_is checks file bytes policy (Some (marks_in hits choosing.choice (current_runs checks.matching file now before)))
+    (misfit_in hits choosing.choice (runs_by checks.matching file now before)) now before c b p matched h q read file_is bytes_are policy_is matching_is once_is regions_is marks_are
+    (marks_long checks.matching hits choosing.choice file now before c b p h q ∙ sym (limited_long file (records_of now))) fits
 
 -- a choice with a place or a rule that fits no chosen hit
 pub misfit_unkept : (m : Merge) (upkeep : Upkeep) (fault : MergeFault)

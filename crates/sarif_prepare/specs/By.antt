@@ -76,5 +76,5 @@ logged_by checks file current baseline policy =
 abbrev pub merge_by : Checks → File → Option (List ℕ) → Policy → Option Choosing
     → List Placed → List Placed → Merge
 merge_by checks file bytes policy choice current baseline =
-    chosen_merge checks.matching file bytes policy choice
+    chosen_merge checks file bytes policy choice
     (counted_if checks.once current) (counted_if checks.once baseline)

@@ -13,9 +13,9 @@ use Rattle.sarif_findings.specs.Reported.{finding_if, reported_in}
 use Rattle.sarif_findings.specs.declared.reporting.Reporting.{Reporting}
 use Rattle.sarif_findings.specs.declared.reporting.Show.TheVariants.{Hits}
 use Rattle.sarif_log.specs.LogBy.{current_runs, runs_by}
-use Rattle.sarif_evidence.specs.declared.version.MatchingVersion.{MatchingVersion}
 use Rattle.sarif_model.specs.declared.merge_fault.At.{At}
 use Rattle.sarif_model.specs.declared.merge_fault.At.TheVariants.{Place, Rule}
+use Rattle.sarif_options.specs.declared.checks.Checks.{Checks}
 use Rattle.sarif_options.specs.declared.policy.Policy.{Policy}
 use Rattle.sarif_prepare.specs.Kept.{merge_of}
 use Rattle.sarif_choice.specs.declared.choice.Choosing.{Choosing}
@@ -50,13 +50,19 @@ misfit_in reporting choice runs =
 abbrev pub with_choice : Merge → Marks → Option At → Merge
 with_choice m marks misfit = record m { chosen = marks; misfit = misfit }
 
--- the merge of these input runs and baseline runs, with the choice if there is one
-abbrev pub chosen_merge : MatchingVersion → File → Option (List ℕ) → Policy → Option Choosing
+-- the merge of these input runs and baseline runs, matched by the version of these checks, and whether copies don't count;
+-- then the runs are without them
+abbrev pub checked_merge : Checks → File → Option (List ℕ) → Policy → List Placed → List Placed → Merge
+checked_merge checks file bytes policy current baseline =
+    record (merge_of checks file bytes policy current baseline) { once = checks.once }
+
+-- the merge with the choice, if there is one
+abbrev pub chosen_merge : Checks → File → Option (List ℕ) → Policy → Option Choosing
     → List Placed → List Placed → Merge
-chosen_merge version file bytes policy None current baseline =
-    merge_of version file bytes policy current baseline
-chosen_merge version file bytes policy (Some choosing) current baseline =
+chosen_merge checks file bytes policy None current baseline =
+    checked_merge checks file bytes policy current baseline
+chosen_merge checks file bytes policy (Some choosing) current baseline =
     let hits = hits_alone policy choosing.roots in
-    with_choice (merge_of version file bytes policy current baseline)
-    (Some (marks_in hits choosing.choice (current_runs version file current baseline)))
-    (misfit_in hits choosing.choice (runs_by version file current baseline))
+    with_choice (checked_merge checks file bytes policy current baseline)
+    (Some (marks_in hits choosing.choice (current_runs checks.matching file current baseline)))
+    (misfit_in hits choosing.choice (runs_by checks.matching file current baseline))

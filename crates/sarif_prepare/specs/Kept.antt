@@ -1,9 +1,10 @@
 -- What a merge gives for later merges, by its runs and its suppression file.
-use Rattle.std.specs.Prelude.{◌≡◌, ◌⊎◌, ◌+◌, ℕ, List, [], ◌∷◌, Option, Some, None, option_map, slice_index_or, IfSome}
+use Rattle.std.specs.Prelude.{◌≡◌, ◌⊎◌, ◌+◌, ℕ, false, List, [], ◌∷◌, Option, Some, None, option_map, slice_index_or, IfSome}
 use Rattle.sarif_model.specs.declared.merge_fault.MergeFault.{MergeFault}
 use Rattle.sarif_model.specs.FirstFault.{first}
 use Rattle.sarif_model.specs.MergeFault.{out_of_memory}
 use Rattle.sarif_counts.specs.declared.life.Life.{Life}
+use Rattle.sarif_options.specs.declared.checks.Checks.{Checks}
 use Rattle.sarif_options.specs.declared.policy.Policy.{Policy}
 use Rattle.sarif_options.specs.declared.upkeep.Upkeep.{Upkeep}
 use Rattle.sarif_evidence.specs.declared.version.MatchingVersion.{MatchingVersion}
@@ -12,6 +13,7 @@ use Rattle.sarif_runs.specs.Judging.{records_of, run_values}
 use Rattle.sarif_runs.specs.Placed.{Placed}
 use Rattle.sarif_model.specs.declared.record.Record.{Record}
 use Rattle.sarif_match.specs.Partners.{partners_in}
+use Rattle.sarif_known.specs.Chosen.{knows_regions}
 use Rattle.sarif_known.specs.Standing.{standing_of}
 use Rattle.sarif_known.specs.declared.standing.Standing.{Standing}
 use Rattle.sarif_upkeep.specs.Life.{life_faults, life_of}
@@ -32,24 +34,25 @@ standings_from version bs partners n (r ∷ rs) =
 abbrev pub standings_of : MatchingVersion → List Record → List Record → List Standing
 standings_of version cs bs = standings_from version bs (partners_in version cs bs) 0 cs
 
--- the merge of these input runs and baseline runs, matched by this version, with this suppression file, read from these
--- bytes, under this policy
-abbrev pub merge_of : MatchingVersion → File → Option (List ℕ) → Policy → List Placed → List Placed
-    → Merge
-merge_of version file bytes policy current baseline = record {
+-- the merge of these input runs and baseline runs, matched as these checks say, with this suppression file, read from
+-- these bytes, under this policy, if each result is counted
+abbrev pub merge_of : Checks → File → Option (List ℕ) → Policy → List Placed → List Placed → Merge
+merge_of checks file bytes policy current baseline = record {
   file = file;
   bytes = bytes;
   policy = policy;
-  matching = version;
+  matching = checks.matching;
+  once = false;
+  regions = knows_regions checks.matching checks.once;
   runs = run_values current;
   records = limited_records file current;
-  states = states_of version (records_of current) (records_of baseline);
-  standings = standings_of version (records_of current) (records_of baseline);
+  states = states_of checks.matching (records_of current) (records_of baseline);
+  standings = standings_of checks.matching (records_of current) (records_of baseline);
   chosen = None;
   misfit = None;
   before = run_values baseline;
   known = records_of baseline;
-  taken = taken_of version (records_of current) (records_of baseline);
+  taken = taken_of checks.matching (records_of current) (records_of baseline);
 }
 
 abbrev pub bytes_of : FileRead → Option (List ℕ)

@@ -2,6 +2,7 @@
 ghost use Rattle.std.specs.Prelude.{◌≡◌, List, Some, map, option_map, unwrap_or, IfOk};
 ghost use Rattle.sarif_model.specs.declared.kinds.State.TheVariants.{New};
 ghost use Rattle.sarif_runs.specs.Placed.{Placed};
+ghost use Rattle.sarif_known.specs.Chosen.{knows_regions};
 ghost use Rattle.sarif_upkeep.specs.Internal.IsMatched.{IsFileOf};
 ghost use Rattle.sarif_prepare.specs.Internal.Keeping.{AreOfRuns, KeepsIfOk, RejectsIfErr};
 ghost use Rattle.sarif_prepare.specs.Kept.{bytes_of};
@@ -13,8 +14,9 @@ use crate::file_read::FileRead;
 use crate::marking::mark_if_chosen;
 use crate::pairing::Sides;
 use sarif_counts::Life;
+use sarif_evidence::MatchingVersion;
 use sarif_model::{MergeFault, State};
-use sarif_options::Upkeep;
+use sarif_options::{Checks, Upkeep};
 use sarif_upkeep::{Before, Current, Matched, life_of};
 use std::alloc::{AllocError, Global};
 use std::thread::Threads;
@@ -37,6 +39,16 @@ fn lent(marks: &Option<Vec<bool>>) -> Option<&[bool]>
     match marks {
         None => None,
         Some(marks) => Some(marks.as_slice()),
+    }
+}
+
+/// Whether the known log has regions and snippets: if matching reads them or copies aren't counted.
+fn knows_regions(checks: &Checks) -> bool
+    ensures { result ≡ knows_regions checks.now.matching checks.now.once }
+{
+    match checks.matching {
+        MatchingVersion::Two => checks.once,
+        MatchingVersion::Three => true,
     }
 }
 
@@ -64,6 +76,8 @@ fn keep<R: Threads + Sync>(
         bytes: rules.bytes,
         policy: asked.options.policy,
         matching: asked.options.checks.matching,
+        once: asked.options.checks.once,
+        regions: knows_regions(&asked.options.checks),
         chosen: lent(&marks),
         current: Current {
             runs: &sides.current.runs,

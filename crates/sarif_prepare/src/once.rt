@@ -142,12 +142,12 @@ fn prepare_split<R: Threads + Sync>(
         (λ prepared. (rs : List Record) → prepared.expired ≡ expired_of rules.now.file.now rs) }
     ensures kept { (now before : List Placed)
         → AreApart rules.now.file.now now before split.entry
-        → IfOk result (λ prepared. IsKept (chosen_merge asked.now.options.now.checks.matching
+        → IfOk result (λ prepared. IsKept (chosen_merge asked.now.options.now.checks
         rules.now.file.now (bytes_of rules.now) asked.now.options.now.policy (choice_in asked.now)
         (without_copies now) (without_copies before)) (upkeep_in asked.now) prepared.life) }
     ensures unkept { (now before : List Placed)
         → AreApart rules.now.file.now now before split.entry
-        → IfErr result (IsUnkept (chosen_merge asked.now.options.now.checks.matching
+        → IfErr result (IsUnkept (chosen_merge asked.now.options.now.checks
         rules.now.file.now (bytes_of rules.now) asked.now.options.now.policy (choice_in asked.now)
         (without_copies now) (without_copies before)) (upkeep_in asked.now)) }
 {
@@ -197,11 +197,11 @@ pub fn prepare_once<R: Threads + Sync>(
     ensures expired { IfOk result
         (λ prepared. (rs : List Record) → prepared.expired ≡ expired_of rules.now.file.now rs) }
     ensures kept { IfOk result
-        (λ prepared. IsKept (chosen_merge asked.now.options.now.checks.matching
+        (λ prepared. IsKept (chosen_merge asked.now.options.now.checks
         rules.now.file.now (bytes_of rules.now) asked.now.options.now.policy (choice_in asked.now)
         (without_copies (placed_in current.entry)) (without_copies (placed_in baseline.entry)))
         (upkeep_in asked.now) prepared.life) }
-    ensures unkept { IfErr result (IsUnkept (chosen_merge asked.now.options.now.checks.matching
+    ensures unkept { IfErr result (IsUnkept (chosen_merge asked.now.options.now.checks
         rules.now.file.now (bytes_of rules.now) asked.now.options.now.policy (choice_in asked.now)
         (without_copies (placed_in current.entry)) (without_copies (placed_in baseline.entry)))
         (upkeep_in asked.now)) }

@@ -72,7 +72,7 @@ pub(crate) struct PairedSides<'t, 'a> {
     pub(crate) paired: Paired,
 }
 
-/// The same, lent.
+/// References to the runs of logs and of baselines, and to how their results were matched.
 #[derive(Clone, Copy)]
 pub(crate) struct Sides<'s, 't: 's, 'a: 't> {
     pub(crate) current: &'s Half<'t, 'a>,
@@ -109,7 +109,8 @@ pub(crate) fn pair_sides<'t, 'a, R: Threads + Sync>(
         × AreFound file current_runs baseline_runs current baselines
         × AreChanges file (records_of current_runs) (all_spent file (records_of current_runs))
         (flat_map results_of (run_values current_runs)) changes }
-    ensures together { IfOk result (λ sides. (file : File) (current_runs baseline_runs : List Placed)
+    ensures together { IfOk result (λ sides. (file : File)
+        (current_runs baseline_runs : List Placed)
         → AreFound file current_runs baseline_runs current.entry baselines.entry
         → AreChanges file (records_of current_runs) (all_spent file (records_of current_runs))
         (flat_map results_of (run_values current_runs)) changes

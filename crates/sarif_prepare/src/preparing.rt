@@ -159,13 +159,13 @@ pub(crate) fn tell_sides<R: Threads + Sync>(
         (runs_by asked.now.options.now.checks.matching file current_runs baseline_runs)) }
     ensures kept { (current_runs baseline_runs : List Placed)
         → AreOfRuns rules.now sides.now current_runs baseline_runs
-        → IfOk result (λ told. IsKept (chosen_merge asked.now.options.now.checks.matching
+        → IfOk result (λ told. IsKept (chosen_merge asked.now.options.now.checks
         rules.now.file.now (bytes_of rules.now)
         asked.now.options.now.policy (choice_in asked.now) current_runs baseline_runs)
         (upkeep_in asked.now) told.life) }
     ensures unkept { (current_runs baseline_runs : List Placed)
         → AreOfRuns rules.now sides.now current_runs baseline_runs
-        → IfErr result (IsUnkept (chosen_merge asked.now.options.now.checks.matching
+        → IfErr result (IsUnkept (chosen_merge asked.now.options.now.checks
         rules.now.file.now (bytes_of rules.now)
         asked.now.options.now.policy (choice_in asked.now) current_runs baseline_runs)
         (upkeep_in asked.now)) }
@@ -196,7 +196,7 @@ fn prepare_sides<R: Threads + Sync>(
     ensures kept { (current_runs baseline_runs : List Placed)
         → AreTogether rules.now.file.now current_runs baseline_runs
         sides.entry.current sides.entry.baselines
-        → IfOk result (λ prepared. IsKept (chosen_merge asked.now.options.now.checks.matching
+        → IfOk result (λ prepared. IsKept (chosen_merge asked.now.options.now.checks
         rules.now.file.now (bytes_of rules.now)
         asked.now.options.now.policy (choice_in asked.now) current_runs baseline_runs)
         (upkeep_in asked.now)
@@ -204,7 +204,7 @@ fn prepare_sides<R: Threads + Sync>(
     ensures unkept { (current_runs baseline_runs : List Placed)
         → AreTogether rules.now.file.now current_runs baseline_runs
         sides.entry.current sides.entry.baselines
-        → IfErr result (IsUnkept (chosen_merge asked.now.options.now.checks.matching
+        → IfErr result (IsUnkept (chosen_merge asked.now.options.now.checks
         rules.now.file.now (bytes_of rules.now)
         asked.now.options.now.policy (choice_in asked.now) current_runs baseline_runs)
         (upkeep_in asked.now)) }
@@ -269,12 +269,12 @@ pub fn prepare<R: Threads + Sync>(
         rules.now.file.now (placed_in current.entry)
         (placed_in baseline.entry) (reporting_in asked.now)) }
     ensures kept { IfOk result
-        (λ prepared. IsKept (chosen_merge asked.now.options.now.checks.matching
+        (λ prepared. IsKept (chosen_merge asked.now.options.now.checks
         rules.now.file.now (bytes_of rules.now)
         asked.now.options.now.policy (choice_in asked.now)
         (placed_in current.entry) (placed_in baseline.entry))
         (upkeep_in asked.now) prepared.life) }
-    ensures unkept { IfErr result (IsUnkept (chosen_merge asked.now.options.now.checks.matching
+    ensures unkept { IfErr result (IsUnkept (chosen_merge asked.now.options.now.checks
         rules.now.file.now (bytes_of rules.now)
         asked.now.options.now.policy (choice_in asked.now)
         (placed_in current.entry) (placed_in baseline.entry))

@@ -33,7 +33,7 @@ abbrev pub IsRejected : {R E : Type 0} → (R → Option (List ℕ)) → (E → 
 IsRejected remaining written request readers after complaints told status = (fault : MergeFault)
     × IsRejectedFor remaining written request readers after complaints told status fault
 
--- what is wrong with sources of these contents: an error, or a file for later merges that is too large for them
+-- what is wrong with sources of these contents: an error of the inputs, or of what was requested for later merges
 abbrev pub AreFaulty : SourceContents → Request → Type 0
 AreFaulty contents request =
     (faults_of (given_by contents request.options) ≡ [] → ⊥)

@@ -1,6 +1,6 @@
 -- Runs, and the results of each.
-use Rattle.std.proofs.Common.{◌≡◌, ◌<◌, ◌≤◌, ◌+◌, ◌-◌, ◌++◌, ℕ, zero, suc, Bool, true, false, List, [], ◌∷◌, Option, Some, map, take, drop, length, get_or, append_assoc, refl, sym, ap, ◌∙◌, arith}
-use Rattle.std.proofs.lemmas.List.{drop-map, map-append, take-map}
+use Rattle.std.proofs.Common.{◌≡◌, ◌<◌, ◌≤◌, ◌+◌, ◌-◌, ◌++◌, ◌||◌, ℕ, zero, suc, Bool, true, false, List, [], ◌∷◌, Option, Some, map, take, drop, length, get_or, append_assoc, refl, sym, ap, ◌∙◌, arith}
+use Rattle.std.proofs.lemmas.List.{drop-map, get_or-map, map-append, take-map}
 use Rattle.serde_json.specs.Data.{Data}
 use Rattle.sarif_model.specs.declared.record.Record.{Record}
 use Rattle.sarif_model.specs.Run.{present, results_of}
@@ -13,6 +13,7 @@ use Rattle.sarif_model.specs.Driver.{tool_name}
 use Rattle.sarif_options.specs.declared.upkeep.Knowing.{Knowing}
 use Rattle.sarif_accept.specs.declared.heard.ToolRun.{ToolRun}
 use Rattle.sarif_accept.specs.Heard.{heard_of}
+use Rattle.sarif_copies.specs.Copies.{has_alike}
 use Rattle.sarif_entries.specs.File.{File}
 use Rattle.sarif_suppress.specs.Suppressing.{matching_numbers}
 use Rattle.sarif_runs.specs.declared.opened.OpenedRun.{OpenedRun}
@@ -27,7 +28,7 @@ use Rattle.sarif_known.specs.declared.chosen.KnownRun.{KnownRun}
 use Rattle.sarif_known.specs.declared.standing.Standing.{Standing}
 use Rattle.sarif_known.specs.Selected.{is_left_out, keep_unless, kept_of, known_of, unmatched_of}
 use Rattle.sarif_upkeep.specs.Heard.{tool_run}
-use Rattle.sarif_upkeep.specs.Known.{chosen_before, chosen_now, known_before, known_faults, known_now, runs_known}
+use Rattle.sarif_upkeep.specs.Known.{chosen_before, chosen_now, gone_if, kept_before, known_faults, known_now, matched_or_alike, records_among, runs_known}
 use Rattle.sarif_upkeep.specs.Merge.{present_counts, Merge}
 use Rattle.sarif_upkeep.proofs.Walked.{first_left}
 
@@ -199,10 +200,30 @@ pub now_same : (m : Merge) (a : Bool) (file : File) (policy : Policy) (adopt : B
 now_same m a file policy adopt runs rs states file_is policy_is adopt_is runs_are rs_are states_are =
     rw (file_is, policy_is, adopt_is, runs_are, rs_are, states_are) refl
 
-pub before_same : (m : Merge) (tools : List ToolRun) (runs : List Data) (rs : List Record) (taken : List Bool)
-    → tools ≡ map tool_run m.runs → runs ≡ m.before → rs ≡ m.known → taken ≡ m.taken
-    → chosen_before (heard_of tools) runs rs taken ≡ known_before m
-before_same m tools runs rs taken tools_are_those runs_are rs_are taken_is = rw (tools_are_those, runs_are, rs_are, taken_is) refl
+pub before_same : (m : Merge) (adopt : Bool) (tools : List ToolRun) (runs : List Data) (rs : List Record) (gone : List Bool)
+    → tools ≡ map tool_run m.runs → runs ≡ m.before → rs ≡ m.known → gone ≡ gone_if m.once (records_among (known_now m adopt)) m.known m.taken
+    → chosen_before (heard_of tools) runs rs gone ≡ kept_before m adopt
+before_same m adopt tools runs rs gone tools_are_those runs_are rs_are gone_is = rw (tools_are_those, runs_are, rs_are, gone_is) refl
+
+-- one more baseline result, which is matched, or alike to a current one, or neither
+pub gone_next : (now rs : List Record) (taken alike : List Bool) (n : ℕ) (t dt a da : Bool) (dr : Record) (old new whole : List Bool)
+    → alike ≡ map (has_alike now) rs → n < length rs → n < length taken → n < length alike → t ≡ get_or taken n dt → a ≡ get_or alike n da
+    → new ≡ old ++ (t || a) ∷ []
+    → old ++ matched_or_alike now (drop n rs) (drop n taken) ≡ whole
+    → new ++ matched_or_alike now (drop (n + 1) rs) (drop (n + 1) taken) ≡ whole
+gone_next now rs taken alike n t dt a da dr old new whole alike_are in_rs in_taken in_alike t_is a_is pushed held =
+    let rest = matched_or_alike now (drop (n + 1) rs) (drop (n + 1) taken) in
+    let here : a ≡ has_alike now (get_or rs n dr) = a_is ∙ ap (λ l. get_or l n da) alike_are ∙ get_or-map (has_alike now) rs n dr da in_rs in
+    let opened : matched_or_alike now (drop n rs) (drop n taken) ≡ (t || a) ∷ rest =
+    ap (λ l. matched_or_alike now l (drop n taken)) (first_left rs n (get_or rs n dr) dr in_rs refl)
+    ∙ ap (λ l. matched_or_alike now (get_or rs n dr ∷ drop (n + 1) rs) l) (first_left taken n t dt in_taken t_is)
+    ∙ ap (λ b. (t || b) ∷ rest) (sym here) in
+    ap (λ l. l ++ rest) pushed ∙ append_assoc old ((t || a) ∷ []) rest ∙ ap (λ l. old ++ l) (sym opened) ∙ held
+
+pub gone_same : (m : Merge) (adopt once : Bool) (now : List Chosen) (rs : List Record) (taken : List Bool)
+    → once ≡ m.once → now ≡ known_now m adopt → rs ≡ m.known → taken ≡ m.taken
+    → gone_if once (records_among now) rs taken ≡ gone_if m.once (records_among (known_now m adopt)) m.known m.taken
+gone_same m adopt once now rs taken once_is now_is rs_are taken_is = rw (once_is, now_is, rs_are, taken_is) refl
 
 pub short_enough : (m : Merge) (knowing : Knowing) (n : ℕ) → n ≡ length (known_text (runs_known m knowing)) → n ≤ most_bytes → known_faults m knowing ≡ []
 short_enough m knowing n is few =
@@ -214,3 +235,26 @@ pub too_long_is : (m : Merge) (knowing : Knowing) → most_bytes < length (known
 too_long_is m knowing long =
     let past : nat_lt most_bytes (length (known_text (runs_known m knowing))) ≡ true = grind (arith, nat_tests) in
     rw past refl
+
+-- ---- baseline results that don't stay known
+
+marked_at : (now rs : List Record) (taken : List Bool) (n : ℕ) (d e : Bool) → n < length taken → length taken ≡ length rs
+    → matched_or_alike now (drop n rs) (drop n taken)
+    ≡ (get_or taken n d || get_or (map (has_alike now) rs) n e) ∷ matched_or_alike now (drop (n + 1) rs) (drop (n + 1) taken)
+marked_at now [] [] n d e within same = absurd (omega (arith, within))
+marked_at now [] (t ∷ taken) n d e within same = absurd (omega (arith, same))
+marked_at now (r ∷ rs) [] n d e within same = absurd (omega (arith, within))
+marked_at now (r ∷ rs) (t ∷ taken) zero d e within same = refl
+marked_at now (r ∷ rs) (t ∷ taken) (suc n) d e within same =
+    let more : suc n + 1 ≡ suc (n + 1) = omega arith in
+    rw more (marked_at now rs taken n d e (omega (arith, within)) (omega (arith, same)))
+
+-- one more result is marked
+pub one_marked : (now rs : List Record) (taken alike gone : List Bool) (n : ℕ) (d e v : Bool) → n < length taken → length taken ≡ length rs
+    → alike ≡ map (has_alike now) rs → v ≡ (get_or taken n d || get_or alike n e)
+    → (gone ++ v ∷ []) ++ matched_or_alike now (drop (n + 1) rs) (drop (n + 1) taken) ≡ gone ++ matched_or_alike now (drop n rs) (drop n taken)
+one_marked now rs taken alike gone n d e v within same alike_is is =
+    append_assoc gone (v ∷ []) (matched_or_alike now (drop (n + 1) rs) (drop (n + 1) taken))
+    ∙ ap (λ b. gone ++ b ∷ matched_or_alike now (drop (n + 1) rs) (drop (n + 1) taken))
+    (is ∙ ap (λ l. get_or taken n d || get_or l n e) alike_is)
+    ∙ ap (λ l. gone ++ l) (sym (marked_at now rs taken n d e within same))

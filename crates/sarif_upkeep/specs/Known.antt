@@ -1,5 +1,6 @@
 -- The known log of a merge.
-use Rattle.std.specs.Prelude.{ℕ, ◌+◌, ◌-◌, Bool, true, false, List, [], ◌∷◌, drop, length, nat_lt, take, Option, Some, if◌then◌else◌}
+use Rattle.std.specs.Prelude.{ℕ, ◌+◌, ◌-◌, ◌||◌, Bool, true, false, List, [], ◌∷◌, drop, length, map, nat_lt, take, Option, Some, if◌then◌else◌}
+use Rattle.std.specs.List.{flat_map}
 use Rattle.serde_json.specs.Data.{Data}
 use Rattle.sarif_model.specs.declared.merge_fault.At.TheVariants.{Whole}
 use Rattle.sarif_model.specs.declared.merge_fault.Cause.TheVariants.{TooLong}
@@ -14,8 +15,9 @@ use Rattle.sarif_counts.specs.declared.life.KnownLog.{KnownLog}
 use Rattle.sarif_options.specs.declared.policy.Policy.{Policy}
 use Rattle.sarif_options.specs.declared.upkeep.Knowing.{Knowing}
 use Rattle.sarif_options.specs.declared.upkeep.Knowing.TheVariants.{Matched, Adopted}
+use Rattle.sarif_copies.specs.Copies.{has_alike}
 use Rattle.sarif_entries.specs.File.{File}
-use Rattle.sarif_known.specs.Chosen.{results_among, Chosen}
+use Rattle.sarif_known.specs.Chosen.{results_among, run_as, Chosen}
 use Rattle.sarif_known.specs.KnownLog.{known_text}
 use Rattle.sarif_known.specs.Order.{known_runs}
 use Rattle.sarif_known.specs.Selected.{kept_of, known_of}
@@ -56,19 +58,43 @@ chosen_before heard (run ∷ runs) rs taken =
 abbrev pub known_now : Merge → Bool → List Chosen
 known_now m adopt = chosen_now m.file m.policy adopt m.runs m.records m.standings
 
+-- the records of these runs, in order
+abbrev pub records_among : List Chosen → List Record
+records_among runs = flat_map (λ run. run.records) runs
+
+-- which of these baseline results, with the marks of the matched ones, are matched or alike to one of these current results
+abbrev pub matched_or_alike : List Record → List Record → List Bool → List Bool
+matched_or_alike now [] taken = []
+matched_or_alike now (r ∷ rs) [] = []
+matched_or_alike now (r ∷ rs) (t ∷ taken) = (t || has_alike now r) ∷ matched_or_alike now rs taken
+
+-- which baseline results don't stay known, regardless of their tools: the matched ones; and if copies aren't counted, those
+-- that are alike to a current result that becomes known, since in the next baseline they would be its copies
+abbrev pub gone_if : Bool → List Record → List Record → List Bool → List Bool
+gone_if false now rs taken = taken
+gone_if true now rs taken = matched_or_alike now rs taken
+
+-- the results of the baselines that stay known, if each result is counted
 abbrev pub known_before : Merge → List Chosen
 known_before m = chosen_before (heard m.runs) m.before m.known m.taken
 
--- the runs of the known log, tool by tool
+-- the results of the baselines that stay known
+abbrev pub kept_before : Merge → Bool → List Chosen
+kept_before m adopt =
+    chosen_before (heard m.runs) m.before m.known
+    (gone_if m.once (records_among (known_now m adopt)) m.known m.taken)
+
+-- the runs of the known log, tool by tool; their records have regions and snippets only if the log has them
 abbrev pub runs_known : Merge → Knowing → List Chosen
 runs_known m knowing =
-    known_runs m.matching (known_now m (adopts knowing)) (known_before m)
+    map (run_as m.regions)
+    (known_runs m.matching (known_now m (adopts knowing)) (kept_before m (adopts knowing)))
 
 -- the known log, as it is given
 abbrev pub remembered : Merge → Knowing → KnownLog
 remembered m knowing =
     let now = results_among (known_now m (adopts knowing)) in
-    let before = results_among (known_before m) in
+    let before = results_among (kept_before m (adopts knowing)) in
     record {
       text = known_text (runs_known m knowing);
       known = now + before;

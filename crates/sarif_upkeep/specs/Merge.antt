@@ -19,6 +19,10 @@ pub record Merge : Type 0 where
   pub policy : Policy
   -- the version by which the results were matched
   pub matching : MatchingVersion
+  -- whether copies aren't counted; then the results below are findings
+  pub once : Bool
+  -- whether its known log has regions and snippets
+  pub regions : Bool
   -- the input runs, the records of all their results in order, and the baseline states of these
   pub runs : List Data
   pub records : List Record

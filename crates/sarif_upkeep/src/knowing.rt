@@ -1,5 +1,6 @@
 //! The known log.
-ghost use Rattle.std.specs.Prelude.{◌≡◌, ◌≤◌, ◌⊎◌, [], drop, length, map, take, IfOk, IfErr};
+ghost use Rattle.std.specs.Prelude.{◌≡◌, ◌≤◌, ◌⊎◌, ◌++◌, [], drop, length, map, take, IfOk, IfErr, OnOk, ◌||◌};
+ghost use Rattle.std.specs.Option.{option_map_or};
 ghost use Rattle.sarif_model.specs.FirstFault.{first};
 ghost use Rattle.sarif_model.specs.MergeFault.{out_of_memory};
 ghost use Rattle.sarif_model.specs.Limits.{most_results};
@@ -17,9 +18,10 @@ ghost use Rattle.sarif_upkeep.specs.ReadBack.{IsKnownLog};
 use crate::matched::{Before, Matched};
 use crate::tools::heard_in;
 use sarif_accept::Heard;
+use sarif_copies::list_alike;
 use sarif_counts::KnownLog;
 use sarif_known::{Choice, KnownRun, Results, keep_run, know_run, known_text};
-use sarif_model::{MergeFault, Text};
+use sarif_model::{MergeFault, Record, Text};
 use sarif_options::Knowing;
 use sarif_runs::OpenedRun;
 use std::alloc::{AllocError, Global};
@@ -81,7 +83,8 @@ fn known_now<'m>(
         ≡ map (applied_of choice.now.file.now) results.records.now }
     ensures { IfOk result (λ chosen. all_chosen chosen.items
         ≡ said.chosen_now choice.now.file.now choice.now.policy choice.now.adopt
-        (run_values (map placed_of runs.now)) results.entry.records.now results.entry.standings.now) }
+        (run_values (map placed_of runs.now)) results.entry.records.now
+        results.entry.standings.now) }
 {
     let mut rest = results;
     let mut chosen = Vec::with_capacity(alloc, runs.len())?;
@@ -93,10 +96,96 @@ fn known_now<'m>(
     Ok(chosen)
 }
 
-/// For each baseline run the results that stay known.
+/// Adds the results of a run.
+fn push_results<'m>(list: &mut Vec<&'m Record>, records: &[&'m Record]) -> Result<(), AllocError>
+    ensures { OnOk result (map (λ r. r.now) list.new.items
+        ≡ map (λ r. r.now) list.old.items ++ map (λ r. r.now) records.now) }
+{
+    for found in records {
+        list.push(*found)?;
+    }
+    Ok(())
+}
+
+/// The results of these runs.
+fn list_results<'m>(alloc: Global, runs: &[KnownRun<'m>]) -> Result<Vec<&'m Record>, AllocError>
+    ensures { IfOk result (λ list. map (λ r. r.now) list.items
+        ≡ said.records_among (all_chosen runs.now)) }
+{
+    let mut list = Vec::new(alloc);
+    for run in runs {
+        push_results(&mut list, &run.records)?;
+    }
+    Ok(list)
+}
+
+/// Whether a baseline result with these marks doesn't stay known: it is matched, or alike to a result that is known.
+fn is_gone(is_taken: bool, is_alike: bool) -> bool
+    ensures { result ≡ (is_taken || is_alike) }
+{
+    is_taken || is_alike
+}
+
+/// Which baseline results are matched or alike to one of the results of these runs.
+fn matched_or_alike<'m>(
+    alloc: Global,
+    seed: RandomState,
+    now: &[KnownRun<'m>],
+    before: &Before<'m, '_, '_>,
+) -> Result<Vec<bool>, AllocError>
+    requires { length before.now.taken.now ≡ length before.now.records.now }
+    ensures gone { IfOk result (λ gone. gone.items ≡ said.matched_or_alike
+        (said.records_among (all_chosen now.now)) before.now.records.now before.now.taken.now) }
+    ensures count { IfOk result (λ gone. length gone.items ≡ length before.now.records.now) }
+{
+    let others = list_results(alloc, now)?;
+    let alike = list_alike(alloc, seed, &others, before.records)?;
+    let mut gone = Vec::with_capacity(alloc, alike.len())?;
+    for (number, taken) in before.taken.iter().enumerate() {
+        gone.push(is_gone(*taken, alike[number]))?;
+    }
+    Ok(gone)
+}
+
+/// Which baseline results don't stay known, regardless of their tools: without a list, the matched ones.
+fn gone_if_once<'m>(
+    alloc: Global,
+    seed: RandomState,
+    matched: &Matched<'m, '_, '_>,
+    now: &[KnownRun<'m>],
+) -> Result<Option<Vec<bool>>, AllocError>
+    requires { length matched.now.before.taken.now ≡ length matched.now.before.records.now }
+    ensures gone { IfOk result (λ gone.
+        option_map_or (λ list. list.items) gone matched.now.before.taken.now
+        ≡ said.gone_if matched.now.once (said.records_among (all_chosen now.now))
+        matched.now.before.records.now matched.now.before.taken.now) }
+    ensures count { IfOk result (λ gone.
+        length (option_map_or (λ list. list.items) gone matched.now.before.taken.now)
+        ≡ length matched.now.before.records.now) }
+{
+    if matched.once {
+        let gone = matched_or_alike(alloc, seed, now, &matched.before)?;
+        Ok(Some(gone))
+    } else {
+        Ok(None)
+    }
+}
+
+/// The marks of this list, if there is one, otherwise these.
+fn marks_or<'m>(list: &'m Option<Vec<bool>>, taken: &'m [bool]) -> &'m [bool]
+    ensures { result.now ≡ option_map_or (λ list. list.items) list.now taken.now }
+{
+    match list {
+        Some(list) => list.as_slice(),
+        None => taken,
+    }
+}
+
+/// For each baseline run the results that stay known, without those that are marked as gone.
 fn known_before<'m>(
     alloc: Global,
     before: &Before<'m, '_, '_>,
+    gone: &[bool],
     heard: &Heard,
 ) -> Result<Vec<KnownRun<'m>>, AllocError>
     requires counts { before.now.counts.now
@@ -104,22 +193,22 @@ fn known_before<'m>(
     requires few { length before.now.records.now ≤ most_results }
     requires records { length before.now.records.now
         ≡ present_total (run_values (map placed_of before.now.runs.now)) }
-    requires taken { length before.now.taken.now ≡ length before.now.records.now }
+    requires gone { length gone.now ≡ length before.now.records.now }
     ensures { IfOk result (λ chosen. all_chosen chosen.items
         ≡ said.chosen_before (heard_of heard.now) (run_values (map placed_of before.now.runs.now))
-        before.now.records.now before.now.taken.now) }
+        before.now.records.now gone.now) }
 {
     let mut records = before.records;
-    let mut taken = before.taken;
+    let mut left = gone;
     let mut chosen = Vec::with_capacity(alloc, before.runs.len())?;
     for (number, run) in before.runs.iter().enumerate() {
         let count = before.counts[number] as usize;
         let (these, others) = records.split_at(count);
-        let (marks, other_marks) = taken.split_at(count);
+        let (marks, other_marks) = left.split_at(count);
         let is_heard = heard.hears(Some(run.tool()));
         chosen.push(keep_run(alloc, run.tool(), these, marks, is_heard)?)?;
         records = others;
-        taken = other_marks;
+        left = other_marks;
     }
     Ok(chosen)
 }
@@ -168,10 +257,12 @@ pub(crate) fn remember(
         drafts: current.drafts,
     };
     let now = known_now(alloc, &choice, current.runs, results)?;
-    let before = known_before(alloc, &matched.before, &heard)?;
+    let list = gone_if_once(alloc, seed, matched, &now)?;
+    let gone = marks_or(&list, matched.before.taken);
+    let before = known_before(alloc, &matched.before, gone, &heard)?;
     let chosen = count_results(&now);
     let kept = count_results(&before);
-    let text = known_text(alloc, seed, matched.matching, now, before)?;
+    let text = known_text(alloc, seed, matched.matching, matched.regions, now, before)?;
     Ok(KnownLog {
         text: Text::from_string(text)?,
         known: (chosen + kept) as u32,

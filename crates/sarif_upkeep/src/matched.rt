@@ -46,6 +46,10 @@ pub struct Matched<'m, 't: 'm, 'a: 't> {
     pub policy: Policy,
     /// The version by which the results were matched.
     pub matching: MatchingVersion,
+    /// Whether copies aren't counted; then all results are findings.
+    pub once: bool,
+    /// Whether the known log has regions and snippets.
+    pub regions: bool,
     /// Which of the current results are chosen hits, if not all hits are.
     pub chosen: Option<&'m [bool]>,
     /// The results of the input runs.

@@ -1,8 +1,10 @@
--- The table of the results so far, as the contracts of its functions see it.
+-- The tables of results, as the contracts of their functions see them.
 use Rattle.std.specs.Prelude.{◌≡◌, ℕ, Bool, true, List}
 use Rattle.std.specs.HashMap.{get, HashMap}
+use Rattle.std.specs.List.{list_any}
+use Rattle.indexmap.specs.IndexSet.{contains, IndexSet}
 use Rattle.sarif_model.specs.declared.record.Record.{Record}
-use Rattle.sarif_copies.specs.Copies.{first_alike, has_line}
+use Rattle.sarif_copies.specs.Copies.{are_alike, first_alike, has_line, unspent}
 use Rattle.sarif_copies.specs.declared.whole_record.WholeRecord.{WholeRecord}
 use Rattle.sarif_copies.specs.contracts.whole_record.WholeRecordPartialEq.TheImpl as derived
 
@@ -24,6 +26,10 @@ fields_of key = record {
   spent = key.spent.now;
 }
 
+-- the record with these numbers of entries that are used up before it
+abbrev pub with_numbers : Record → List ℕ → Record
+with_numbers r numbers = record r { spent = numbers }
+
 -- whether two keys are equal, field by field
 abbrev pub same_whole : WholeRecord → WholeRecord → Bool
 same_whole = derived.ghosts.eq
@@ -33,3 +39,10 @@ abbrev pub IsTableOf : {S : Type 0} → List Record → HashMap WholeRecord ℕ 
 IsTableOf before table =
     (key : WholeRecord) → has_line (fields_of key) ≡ true
     → get same_whole table key ≡ first_alike (fields_of key) 0 before
+
+-- the table has those of these results that have a URI and a region, regardless of the entries of a suppression file that
+-- are used up before them
+abbrev pub HasThese : {S : Type 0} → List Record → IndexSet WholeRecord S → Type 0
+HasThese rs table =
+    (key : WholeRecord) → has_line (fields_of key) ≡ true
+    → contains same_whole table key ≡ list_any (λ q. are_alike (unspent q) (fields_of key)) rs

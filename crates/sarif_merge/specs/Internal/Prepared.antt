@@ -2,7 +2,6 @@
 use Rattle.std.specs.Prelude.{◌≡◌, [], Option}
 use Rattle.sarif_options.specs.declared.policy.Policy.{Policy}
 use Rattle.sarif_options.specs.declared.upkeep.Upkeep.{Upkeep}
-use Rattle.sarif_model.specs.declared.merge_fault.Source.TheVariants.{Log, Baseline}
 use Rattle.sarif_findings.specs.declared.reporting.Reporting.{Reporting}
 use Rattle.sarif_log.specs.declared.prepared.Prepared.{Prepared}
 use Rattle.sarif_prepare.specs.Kept.{IsKept}
@@ -10,7 +9,7 @@ use Rattle.sarif_choice.specs.declared.choice.Choosing.{Choosing}
 use Rattle.sarif_prepare.specs.By.{IsPreparedBy}
 use Rattle.sarif_inputs.specs.Faults.{faults_of}
 use Rattle.sarif_entries.specs.Given.{file_or_none}
-use Rattle.sarif_inputs.specs.Inputs.{Inputs, numbered, placed}
+use Rattle.sarif_inputs.specs.Inputs.{Inputs, baseline_runs, input_runs}
 use Rattle.sarif_merge.specs.Life.{merge_counted}
 use Rattle.sarif_merge.specs.MergedLog.{expired_in, file_in}
 
@@ -20,8 +19,8 @@ pub record IsPreparedFor (inputs : Inputs) (policy : Policy) (asked : Option Rep
   pub faultless : faults_of inputs ≡ []
   pub written : IsPreparedBy inputs.checks
       (file_in (file_or_none inputs.suppressions inputs.today))
-      (placed (numbered inputs.checks Log 0 inputs.logs))
-      (placed (numbered inputs.checks Baseline 0 inputs.baselines))
+      (input_runs inputs)
+      (baseline_runs inputs)
       asked prepared
   pub expired : prepared.expired ≡ expired_in inputs
   pub kept : IsKept (merge_counted inputs policy choice) upkeep prepared.life

@@ -6,6 +6,7 @@ use Rattle.sarif_model.specs.Limits.{most_results, most_runs}
 use Rattle.sarif_model.specs.MergeFault.{exit_status}
 use Rattle.sarif_model.specs.Run.{results_total}
 use Rattle.sarif_model.specs.declared.merge_fault.MergeFault.{MergeFault}
+use Rattle.sarif_model.specs.declared.merge_fault.Source.TheVariants.{Log, Baseline}
 use Rattle.sarif_options.specs.declared.policy.Policy.{Policy}
 use Rattle.sarif_options.specs.declared.checks.Checks.{Checks}
 use Rattle.sarif_entries.specs.File.{File}
@@ -16,7 +17,7 @@ use Rattle.sarif_runs.specs.declared.opened.OpenedRun.{OpenedRun}
 use Rattle.sarif_inputs.specs.Faults.{faults_of, file_faults}
 use Rattle.sarif_entries.specs.Given.{file_or_none}
 use Rattle.sarif_inputs.specs.Internal.Indexes.{AreIndexesOf}
-use Rattle.sarif_inputs.specs.Inputs.{Inputs, all_runs, baseline_runs, input_runs}
+use Rattle.sarif_inputs.specs.Inputs.{Inputs, all_runs, baseline_runs, input_runs, numbered, placed}
 use Rattle.sarif_results.specs.Internal.Judged.{IsJudged, placed_in}
 use Rattle.sarif_results.specs.declared.judged.Judged.{Judged}
 use Rattle.sarif_prepare.specs.Asked.{choice_in, reporting_in, upkeep_in}
@@ -65,13 +66,23 @@ pub record AreOpened (wanted : List Placed) (runs : List OpenedRun) : Type 0 whe
   pub few : length runs ≤ most_runs
   pub few_results : results_total (run_values (map placed_of runs)) ≤ most_results
 
--- the runs of its logs
+-- the runs of its logs, without what only entries of the suppression file compare
 unfoldable pub AreLogsOpened : Merging → List OpenedRun → Type 0
-AreLogsOpened m runs = AreOpened (input_runs (inputs_in m)) runs
+AreLogsOpened m runs =
+    AreOpened (placed (numbered (checks_in m) Log 0 (inputs_in m).logs)) runs
+
+-- the runs of its baselines, without what only entries of the suppression file compare
+unfoldable pub AreBaselinesOpened : Merging → List OpenedRun → Type 0
+AreBaselinesOpened m runs =
+    AreOpened (placed (numbered (checks_in m) Baseline 0 (inputs_in m).baselines)) runs
+
+-- the runs of its logs
+unfoldable pub AreLogsReady : Merging → List OpenedRun → Type 0
+AreLogsReady m runs = AreOpened (input_runs (inputs_in m)) runs
 
 -- the runs of its baselines
-unfoldable pub AreBaselinesOpened : Merging → List OpenedRun → Type 0
-AreBaselinesOpened m runs = AreOpened (baseline_runs (inputs_in m)) runs
+unfoldable pub AreBaselinesReady : Merging → List OpenedRun → Type 0
+AreBaselinesReady m runs = AreOpened (baseline_runs (inputs_in m)) runs
 
 -- its suppression file: any error is one of the runs
 unfoldable pub IsFileIn : Merging → File → Type 0

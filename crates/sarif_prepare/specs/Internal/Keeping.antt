@@ -21,7 +21,7 @@ AreOfRuns rules sides current_runs baseline_runs =
 -- the merge of these runs, with the choice if there is one
 abbrev pub merge_by : FileRead → Asked → List Placed → List Placed → Merge
 merge_by rules asked current_runs baseline_runs =
-    chosen_merge asked.options.now.checks.matching rules.file.now (bytes_of rules)
+    chosen_merge asked.options.now.checks rules.file.now (bytes_of rules)
     asked.options.now.policy (choice_in asked) current_runs baseline_runs
 
 -- what is given for later merges is that of the merge of the sides' runs

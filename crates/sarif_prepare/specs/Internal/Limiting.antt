@@ -25,7 +25,7 @@ abbrev pub draft_again : File → Record → List ℕ → Data → Option Draft
 draft_again file r [] d = None
 draft_again file r (n ∷ ns) d = Some (draft_of file (with_spent r (n ∷ ns)) d)
 
--- the same for each result
+-- the drafts of results before which entries are used up, in order
 abbrev pub drafts_again : File → List Record → List (List ℕ) → List Data → List (Option Draft)
 drafts_again file [] lists ds = []
 drafts_again file (r ∷ rs) [] ds = []

@@ -56,5 +56,5 @@ rejected refusal.OutOfMemory = out_of_memory
 -- the merge of these runs with this choice
 abbrev pub merge_with : File → Asked → Choosing → List Placed → List Placed → Merge
 merge_with file asked choosing current_runs baseline_runs =
-    chosen_merge asked.options.now.checks.matching file None asked.options.now.policy
+    chosen_merge asked.options.now.checks file None asked.options.now.policy
     (Some choosing) current_runs baseline_runs

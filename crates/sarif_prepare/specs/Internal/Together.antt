@@ -52,7 +52,7 @@ pub record ArePaired (version : MatchingVersion) (rs : List Record) (baselines :
   pub left : (baseline_runs : List Placed) → AreBaselines baseline_runs baselines
       → paired.left.items ≡ not_taken paired.taken.items (baseline_drafts baseline_runs)
 
--- the same for these runs of logs, regardless of the entries that are used up before their results
+-- how the results of these runs of logs were matched, regardless of the entries that are used up before their results
 abbrev pub IsPaired : MatchingVersion → Half → Baselines → Paired → Type 0
 IsPaired version current baselines paired =
     ArePaired version (map unspent current.records.items) baselines paired

@@ -44,6 +44,8 @@ pub record IsMatched (m : Merge) (matched : Matched) : Type 0 where
   pub read : IsFileOf m.bytes m.file
   pub policy : matched.policy ≡ m.policy
   pub matching : matched.matching ≡ m.matching
+  pub once : matched.once ≡ m.once
+  pub regions : matched.regions ≡ m.regions
   pub chosen : option_map (λ marks. marks.now) matched.chosen ≡ m.chosen
   pub chosen_long : IfSome m.chosen (λ marks. length marks ≡ length m.records)
   pub fits : m.misfit ≡ None

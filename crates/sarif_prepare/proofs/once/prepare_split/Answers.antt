@@ -126,7 +126,7 @@ returns-clause-kept g c = λ now before h.
     let tb = without_copies before in
     let options = c.args.asked.now.options.now in
     let rules = c.args.rules.now in
-    let merge = chosen_merge options.checks.matching rules.file.now (bytes_of rules) options.policy (choice_in c.args.asked.now) tn tb in
+    let merge = chosen_merge options.checks rules.file.now (bytes_of rules) options.policy (choice_in c.args.asked.now) tn tb in
     subst (λ l. IsKept merge (upkeep_in c.args.asked.now) l) (sym c.put_together.ensures.life) (c.in_ok-findings.ensures.kept tn tb
     (lent_sides c.args.rules.now.file.now (without_copies now) (without_copies before) c.in_ok-sides.sides.current c.lend.result.current.now c.in_ok-sides.sides.baselines
     c.lend.result.baselines.now c.lend.ensures.current c.lend.ensures.baselines t))

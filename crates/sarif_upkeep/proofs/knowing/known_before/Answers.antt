@@ -30,13 +30,13 @@ loop-number-preserved c =
     let many : length l.records.now ≡ length (present (results_of run)) + present_total (run_values (map placed_of (drop (l.number + 1) runs))) =
     l.invariant.records ∙ ap present_total left in
     let records_left : length c.split_at.result.1.now ≡ length l.records.now - k = ap length c.split_at.ensures.back ∙ length-drop k l.records.now in
-    let taken_left : length c.split_at-in-loop-number.result.1.now ≡ length l.taken.now - k =
-    ap length c.split_at-in-loop-number.ensures.back ∙ length-drop k l.taken.now in record {
+    let marks_left : length c.split_at-in-loop-number.result.1.now ≡ length l.left.now - k =
+    ap length c.split_at-in-loop-number.ensures.back ∙ length-drop k l.left.now in record {
       few = omega (arith, records_left, l.invariant.few);
       records = omega (arith, records_left, many, count);
-      taken = omega (arith, records_left, taken_left, l.invariant.taken);
+      left = omega (arith, records_left, marks_left, l.invariant.left);
       chosen =
-          before_next (heard_of c.args.heard.now) _ run _ l.records.now _ l.taken.now _ k
+          before_next (heard_of c.args.heard.now) _ run _ l.records.now _ l.left.now _ k
           (all_chosen l.chosen.items) (chosen_of c.in_ok-keep_run.field-0) _ _
           left count c.split_at.ensures.back c.split_at-in-loop-number.ensures.back
           (c.in_ok-keep_run.ensures

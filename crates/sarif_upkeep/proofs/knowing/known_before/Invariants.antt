@@ -12,8 +12,8 @@ abbrev pub invariant-loop-number : goal.invariant-loop-number
 invariant-loop-number l = record {
   few : length l.records ≤ most_results;
   records : length l.records ≡ present_total (run_values (map placed_of (drop l.number l.before.runs.now)));
-  taken : length l.taken ≡ length l.records;
+  left : length l.left ≡ length l.records;
   chosen : all_chosen l.chosen.items
-      ++ chosen_before (heard_of l.heard) (run_values (map placed_of (drop l.number l.before.runs.now))) l.records l.taken
-      ≡ chosen_before (heard_of l.heard) (run_values (map placed_of l.before.runs.now)) l.before.records.now l.before.taken.now;
+      ++ chosen_before (heard_of l.heard) (run_values (map placed_of (drop l.number l.before.runs.now))) l.records l.left
+      ≡ chosen_before (heard_of l.heard) (run_values (map placed_of l.before.runs.now)) l.before.records.now l.gone;
 }

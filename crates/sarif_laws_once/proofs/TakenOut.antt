@@ -1,0 +1,118 @@
+-- The merge of logs and baselines without copies has the findings of the merge with them.
+use Rattle.std.proofs.Common.{◌≡◌, ◌+◌, ℕ, suc, Bool, true, false, List, [], ◌∷◌, ◌++◌, length, take, drop, Option, Some, None, option_map, refl, sym, ap, ap₂, ◌∙◌}
+use Rattle.std.specs.Prelude.{◌||◌, cond, fold, is_some, not}
+use Rattle.serde_json.specs.Data.{Data}
+use Rattle.serde_json.specs.View.{items_of}
+use Rattle.sarif_model.specs.Run.{results_array, results_of}
+use Rattle.sarif_options.specs.declared.checks.Checks.{Checks}
+use Rattle.sarif_options.specs.declared.policy.Policy.{Policy}
+use Rattle.sarif_entries.specs.File.{File}
+use Rattle.sarif_evidence.specs.declared.version.MatchingVersion.{MatchingVersion}
+use Rattle.sarif_evidence.specs.declared.version.MatchingVersion.TheVariants.{Two, Three}
+use Rattle.sarif_known.specs.Chosen.{knows_regions}
+use Rattle.sarif_choice.specs.declared.choice.Choosing.{Choosing}
+use Rattle.sarif_counts.specs.CountOf.{count_of}
+use Rattle.sarif_counts.specs.Hits.{hits_of, verdict_of}
+use Rattle.sarif_read.specs.Unmarked.{unmarked}
+use Rattle.sarif_read.proofs.Only.{array_only}
+use Rattle.sarif_runs.specs.Judging.{run_values}
+use Rattle.sarif_runs.specs.Placed.{Placed}
+use Rattle.sarif_runs.specs.Unmarked.{runs_without}
+use Rattle.sarif_suppress.specs.Suppressing.{unused_of}
+use Rattle.sarif_once.specs.Once.{copy_marks, without_copies}
+use Rattle.sarif_log.specs.LogBy.{current_runs, limited_records, runs_by, runs_without_results}
+use Rattle.sarif_prepare.specs.By.{counted_if, merge_by, runs_counted_if}
+use Rattle.sarif_prepare.specs.Chosen.{chosen_merge, hits_alone, marks_in, misfit_in, with_choice}
+use Rattle.sarif_prepare.specs.Kept.{merge_of}
+use Rattle.sarif_prepare.proofs.Expired.{all_expired}
+use Rattle.sarif_inputs.specs.Faults.{faults_of}
+use Rattle.sarif_inputs.specs.Inputs.{Inputs, baseline_runs, input_runs, looks_at_regions}
+use Rattle.sarif_merge.specs.Life.{merge_counted}
+use Rattle.sarif_merge.specs.MergedLog.{file_given, limited_of, runs_counted, unused_counted, without_of}
+use Rattle.sarif_laws_once.specs.TakenOut.{AreWithoutCopies, HasSameFindings, counting_each, if_each_counts}
+use Rattle.sarif_laws_once.specs.WithoutPlaces.{log_without_copies}
+use Rattle.sarif_laws_once.proofs.ReadWithout.{none_there, runs_before, runs_now}
+
+some_mapped : {A B : Type 0} (f : A → B) (o : Option A) → is_some (option_map f o) ≡ is_some o
+some_mapped f None = refl
+some_mapped f (Some a) = refl
+
+-- a run has an array of results as before
+abbrev one_more : ℕ → Data → ℕ
+one_more n run = n + cond (not (is_some (results_array run))) 1 0
+
+none_after : (n : ℕ) (marks : List Bool) (ps : List Placed) → fold one_more n (run_values (runs_without marks ps)) ≡ fold one_more n (run_values ps)
+none_after n marks [] = refl
+none_after n marks (p ∷ ps) =
+    let k = length (results_of p.run) in
+    let ds = unmarked (take k marks) (results_of p.run) in
+    ap (λ b. fold one_more (n + cond (not b) 1 0) (run_values (runs_without (drop k marks) ps)))
+    (ap is_some (array_only ds p.run) ∙ some_mapped (λ _. items_of ds) (results_array p.run))
+    ∙ none_after (one_more n p.run) (drop k marks) ps
+
+pub still_none : (marks : List Bool) (ps : List Placed) → runs_without_results (run_values (runs_without marks ps)) ≡ runs_without_results (run_values ps)
+still_none marks ps = none_after 0 marks ps
+
+-- that results count, and whether the known log has regions, is all that differs for later merges
+knows_each : (v : MatchingVersion) → knows_regions v false ≡ looks_at_regions v
+knows_each Two = refl
+knows_each Three = refl
+
+chosen_each : (checks : Checks) (file : File) (bytes : Option (List ℕ)) (policy : Policy) (choice : Option Choosing) (current baseline : List Placed)
+    → chosen_merge (record checks { once = false }) file bytes policy choice current baseline
+    ≡ record (chosen_merge checks file bytes policy choice current baseline) { once = false; regions = looks_at_regions checks.matching }
+chosen_each checks file bytes policy None current baseline =
+    (λ i. record (merge_of checks file bytes policy current baseline) { regions = knows_each checks.matching i })
+chosen_each checks file bytes policy (Some choosing) current baseline =
+    let hits = hits_alone policy choosing.roots in
+    (λ i. with_choice (record (merge_of checks file bytes policy current baseline) { regions = knows_each checks.matching i })
+    (Some (marks_in hits choosing.choice (current_runs checks.matching file current baseline)))
+    (misfit_in hits choosing.choice (runs_by checks.matching file current baseline)))
+
+module _ (inputs : Inputs) (logs baselines : List (List ℕ)) (none : faults_of inputs ≡ []) (once : inputs.checks.once ≡ true)
+    (regions : (inputs.snippets || looks_at_regions inputs.checks.matching) ≡ true) (read : AreWithoutCopies inputs logs baselines) where
+  abbrev other : Inputs
+  other = counting_each inputs logs baselines
+
+  abbrev now : List Placed
+  now = input_runs inputs
+
+  abbrev before : List Placed
+  before = baseline_runs inputs
+
+  same_now : input_runs other ≡ without_copies now
+  same_now = runs_now inputs logs baselines none regions read
+
+  same_before : baseline_runs other ≡ without_copies before
+  same_before = runs_before inputs logs baselines none regions read
+
+  pub counted_same : runs_counted (counting_each inputs logs baselines) ≡ runs_counted inputs
+  counted_same =
+      ap₂ (runs_by inputs.checks.matching (file_given inputs)) same_now same_before
+      ∙ sym (ap (λ b. runs_counted_if b inputs.checks.matching (file_given inputs) now before) once)
+
+  pub later_same : (policy : Policy) (choice : Option Choosing)
+      → merge_counted (counting_each inputs logs baselines) policy choice ≡ if_each_counts inputs (merge_counted inputs policy choice)
+  later_same policy choice =
+      ap₂ (chosen_merge other.checks (file_given inputs) inputs.suppressions policy choice) same_now same_before
+      ∙ chosen_each inputs.checks (file_given inputs) inputs.suppressions policy choice (without_copies now) (without_copies before)
+      ∙ sym (ap (λ b. if_each_counts inputs
+      (chosen_merge inputs.checks (file_given inputs) inputs.suppressions policy choice (counted_if b now) (counted_if b before))) once)
+
+  unused_same : unused_counted other ≡ unused_counted inputs
+  unused_same =
+      ap (λ ps. unused_of (file_given inputs) (limited_records (file_given inputs) ps))
+      (same_now ∙ sym (ap (λ b. counted_if b now) once))
+
+  pub same_findings : log_without_copies inputs ≡ runs_counted inputs → HasSameFindings inputs (counting_each inputs logs baselines)
+  same_findings log = record {
+    faultless = none_there inputs logs baselines none regions read;
+    log = counted_same ∙ sym log;
+    counted = counted_same;
+    counts = ap count_of counted_same;
+    hits = λ policy. ap (λ runs. hits_of (count_of runs) policy) counted_same;
+    verdict = λ policy. ap (λ runs. verdict_of (count_of runs) policy) counted_same;
+    without = ap (λ ps. runs_without_results (run_values ps)) same_now ∙ still_none (copy_marks now) now;
+    unused = unused_same;
+    expired = sym (all_expired (file_given inputs) (limited_of other)) ∙ all_expired (file_given inputs) (limited_of inputs);
+  }
