@@ -252,7 +252,47 @@ def prefixes(plan, maker, scale):
     plan.suppress = plan.file("rules.json", compact({"version": 2, "suppressions": found}))
 
 
-SHAPES = {it.__name__: it for it in (first, rules, pair, many, names, entries, prefixes)}
+def short(maker, number):
+    """A result of about 140 bytes as a string."""
+    uri = f"src/{maker.rng.randrange(2_000)}.c"
+    location = {
+        "physicalLocation": {
+            "artifactLocation": {"uri": uri},
+            "region": {"startLine": number % 5_000 + 1},
+        }
+    }
+    return compact({"ruleId": f"R{number % 200}", "message": {"text": "m"}, "locations": [location]})
+
+
+def small(plan, maker, scale):
+    """200,000 short results, and the same without one in ten as a baseline."""
+    results = [short(maker, number) for number in range(int(200_000 * scale))]
+    before = [text for number, text in enumerate(results) if number % 10]
+    plan.baseline(log_of(before, []), len(before))
+    plan.log(log_of(results, []), len(results))
+
+
+def million(plan, maker, scale):
+    """Nearly 1,000,000 results of about 550 bytes in nine logs of 60 MB."""
+    for _ in range(9):
+        results = []
+        for number in range(int(109_000 * scale)):
+            result = json.loads(short(maker, number))
+            result["message"]["text"] = f"{maker.text(8)} {number}"
+            result["locations"][0]["physicalLocation"]["region"] |= {"startColumn": 5, "endColumn": 17}
+            result["partialFingerprints"] = {"primaryLocationLineHash": f"{maker.digest()[:16]}:1"}
+            result["properties"] = {"tags": list(TAGS[:2]), "seen": maker.text(15)}
+            results.append(compact(result))
+        plan.log(log_of(results, maker.rules(200)), len(results))
+
+
+def reports(plan, maker, scale):
+    """One log of 50 MB, whose results are all reported."""
+    first(plan, maker, scale)
+
+
+MAKERS = (first, rules, pair, many, names, entries, prefixes, small, million, reports)
+SHAPES = {it.__name__: it for it in MAKERS}
 
 
 def main():

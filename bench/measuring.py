@@ -16,6 +16,9 @@ class Run:
     wall: float
     processor: float
     peak: int
+    user: float = 0.0
+    system: float = 0.0
+    faults: int = 0
 
 
 def measure(words, given, out, statuses=(0, 1)):
@@ -42,4 +45,12 @@ def spawned(words, given, out, said):
     wall = time.monotonic() - begin
     for stream in streams:
         os.close(stream)
-    return Run(wall, used.ru_utime + used.ru_stime, used.ru_maxrss * 1024), status
+    user, system = used.ru_utime, used.ru_stime
+    faults = used.ru_minflt + used.ru_majflt
+    return Run(wall, user + system, used.ru_maxrss * 1024, user, system, faults), status
+
+
+def idle_seconds():
+    """Returns how long all processors together have been idle since the machine was started."""
+    numbers = Path("/proc/stat").read_text().split("\n", 1)[0].split()[1:]
+    return (int(numbers[3]) + int(numbers[4])) / os.sysconf("SC_CLK_TCK")

@@ -12,7 +12,7 @@ from pathlib import Path
 
 sys.path.insert(0, str(Path(__file__).resolve().parents[1] / "tests/reference"))
 
-from reference import Checks, Head, Record
+from reference import Checks, Head, Record, fields
 from reference_json import Fault
 from reference_matching import partners, state
 
@@ -41,14 +41,17 @@ def logs_in(folder):
     return sorted(it for part in (".", "old", "new") for it in (folder / part).glob("*.sarif"))
 
 
-def records_of(source):
-    """The results of a log with their states, which are None in a log that no merge wrote."""
-    found = []
-    for run in json.loads(source.removeprefix(b"\xef\xbb\xbf"))["runs"] or []:
+def records_of(source, once=False):
+    """The results of a log with their states, which are None in a log that no merge wrote. Those of a merge with `--once`
+    are without its copies."""
+    log, found = json.loads(source.removeprefix(b"\xef\xbb\xbf")), []
+    copies = {tuple(it) for it in log["properties"]["gate"]["copies"]} if once else ()
+    for number, run in enumerate(log["runs"] or []):
         head = Head(run)
-        for value in run.get("results") or []:
+        for at, value in enumerate(run.get("results") or []):
             was = value.pop("baselineState", None)
-            found.append((was, Record(head, value, Checks(version=3))))
+            if (number, at) not in copies:
+                found.append((was, Record(head, value, Checks(version=3))))
     return found
 
 
@@ -63,22 +66,31 @@ def records_in(path):
 def by_program(gate):
     """A merge by the program. It returns the results of the merged log with their states."""
 
-    def merge(newer, older, version):
+    def merge(newer, older, version, once=False):
         with tempfile.TemporaryDirectory(prefix="sarif_gate-matching-") as folder:
             out = Path(folder, "merged")
             words = [gate, "--matching", str(version), "--allow-external-properties", "--out", str(out)]
+            words += ["--once"] * once
             words += [word for it in older for word in ("--baseline", str(it))]
             ran = subprocess.run([*words, *map(str, newer)], capture_output=True, text=True)
             if ran.returncode not in (0, 1):
                 raise SystemExit(f"{newer[0]} is rejected: {ran.stderr[-300:].strip()}")
-            return records_of(out.read_bytes())
+            return records_of(out.read_bytes(), once)
 
     return merge
 
 
-def by_reference(newer, older, version):
+def findings(records):
+    """The results that are no copies: the first of those that are alike."""
+    firsts = {}
+    return [it for it in records if (alike := fields(it)) is None or firsts.setdefault(alike, it) is it]
+
+
+def by_reference(newer, older, version, once=False):
     """The same by the matching of the second merger."""
     current, before = ([it for path in paths for it in records_in(path)] for paths in (newer, older))
+    if once:
+        current, before = findings(current), findings(before)
     found = partners(current, before, version)
     merged = [(state(it, None if j is None else before[j], version), it) for it, j in zip(current, found)]
     taken = set(found)

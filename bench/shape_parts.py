@@ -30,6 +30,8 @@ class Input:
     is_too_long: bool = False
     # The version of matching. Without the option it is 2.
     matching: int = 2
+    # Whether copies are counted once.
+    once: bool = False
 
     def files(self, folder):
         """Writes the files. Returns the arguments that merge them."""
@@ -46,6 +48,7 @@ class Input:
             words += ["--known", str(folder / "known"), "--adopt"]
         if self.matching != 2:
             words += ["--matching", str(self.matching)]
+        words += ["--once"] * self.once
         return [*words, *(put(folder / f"log{n}", text) for n, text in enumerate(self.logs))]
 
     def statuses(self):

@@ -5,9 +5,12 @@ nearly the same length. What many results share in the costly input is in a memb
 What causes much work in the costly input causes little in the twin.
 """
 
+from dataclasses import replace
+
 from shape_parts import LONG, MEGABYTE, OTHER_HASH, SAME_HASH, Input
 from shape_parts import at, entries, hashed, in_region, log, logs_of, message, placed, run
-from shapes_fifth import accepted_by_snippet, entries_of_one_snippet, entries_of_snippets, of_message, of_print
+from shapes_fifth import accepted_by_snippet, entries_and_long_snippet, entries_of_one_snippet, entries_of_snippets
+from shapes_fifth import entries_with_max, message_entries_and_long_snippet, of_message, of_print
 from shapes_shown import told_files, told_long_snippets, told_names, told_snippets
 
 # ---- A long string that many results share
@@ -498,6 +501,14 @@ def in_one_group(members):
     return make
 
 
+def copies(count):
+    """Copies of one result on both sides, compared with different results."""
+    for is_one in (True, False):
+        lines = [1_000_000 + (0 if is_one else i) for i in range(count)]
+        text = log(run([message(**in_region(startLine=it)) for it in lines]))
+        yield Input([text], [text], matching=3, once=True)
+
+
 def names_of_one_value(value):
     """A name of a fingerprint for each result, all with one value, compared with one name."""
 
@@ -541,6 +552,10 @@ def colliding_snippets(count):
         texts = [hashed(i, parts) for i in range(count)]
         results = [message(**in_region(startLine=1, snippet={"text": it})) for it in texts]
         yield Input([log(run(results))], [log(run(results[::-1]))], matching=3)
+
+
+def in_version_2(make):
+    return lambda count: (replace(it, matching=2) for it in make(count))
 
 
 # The function that makes a costly input and its twin, and the size at which they are measured.
@@ -631,6 +646,7 @@ SHAPES = {
     "one_group": (in_one_group(message), 500_000),
     "one_group_region": (in_one_group(lambda n: in_region(startLine=int(f"1{n}"))), 500_000),
     "one_group_print": (in_one_group(lambda n: {"fingerprints": {"f/v1": n}}), 500_000),
+    "copies": (copies, 500_000),
     # Names of fingerprints, also with the empty value, and next to a message of a megabyte.
     "names_of_one_value": (names_of_one_value("x"), 20_000),
     "names_of_no_value": (names_of_one_value(""), 20_000),
@@ -647,4 +663,30 @@ SHAPES = {
     # Entries of one snippet and one file, which differ in a fingerprint or in the message.
     "entries_snippet_print": (entries_of_one_snippet(of_print), 10_000),
     "entries_snippet_message": (entries_of_one_snippet(of_message), 10_000),
+    # Results with a snippet of a megabyte, and an entry that is filed under its message or another long snippet.
+    "long_snippet_message": (message_entries_and_long_snippet, 1_000),
+    "long_snippet_entry": (entries_and_long_snippet, 1_000),
+    # Entries with `max` 1 and a condition that is true for all results.
+    "entries_max": (entries_with_max({"tool": "t"}, {"tool": "u"}), 10_000),
 }
+# The same in version 2.
+BOTH_VERSIONS = (
+    "shared_snippet",
+    "snippets_by_end",
+    "snippets_by_space",
+    "colliding_snippets",
+    "one_group",
+    "one_group_region",
+    "one_group_print",
+    "copies",
+    "names_of_one_value",
+    "names_of_no_value",
+    "names_and_message",
+    "contexts",
+    "repeated_contexts",
+    "entries_snippet",
+    "entries_rule_and_snippet",
+    "entries_snippet_print",
+    "entries_snippet_message",
+)
+SHAPES |= {f"{name}_2": (in_version_2(SHAPES[name][0]), SHAPES[name][1]) for name in BOTH_VERSIONS}

@@ -1,6 +1,6 @@
 """Costly inputs with suppression files of version 5, each with its twin."""
 
-from shape_parts import Input, entries, in_region, log, message, run
+from shape_parts import MEGABYTE, Input, entries, in_region, log, logs_of, message, run
 
 
 def entries_of_snippets(condition):
@@ -45,6 +45,34 @@ def of_print(word, is_entry):
 
 def of_message(word, is_entry):
     return {"message": word if is_entry else {"text": word}}
+
+
+def entries_with_max(condition, harmless):
+    """Ten results per entry, and entries with `max` 1 and a condition that is true for all results. Each entry is used up
+    by the first result. The twin's condition is true for none."""
+
+    def make(count):
+        text = log(run([message(ruleId="R", **in_region(startLine=i + 1)) for i in range(count * 10)]))
+        for it in (condition, harmless):
+            yield Input([text], suppress=entries([{**it, "max": 1}] * count, 5))
+
+    return make
+
+
+def message_entries_and_long_snippet(count):
+    """Results with one snippet of a megabyte, in logs of 50 results each, with an entry by message, so that no entry is
+    filed under a snippet. They are compared with results whose snippet isn't read."""
+    found = entries([{"message": "x", "uri": "a.c"}], 5)
+    for name, other in (("text", "x"), ("x", "text")):
+        results = [message(**in_region(startLine=1, snippet={name: MEGABYTE, other: "s"}))] * 50
+        yield Input(logs_of(results, 50) * (count // 50), suppress=found, matching=3)
+
+
+def entries_and_long_snippet(count):
+    """The same with an entry of another snippet of a megabyte, which is compared with an entry of a GUID."""
+    results = [message(**in_region(startLine=1, snippet={"text": MEGABYTE}))] * 50
+    for it in ({"snippet": MEGABYTE[1:] + "x"}, {"guid": "00000000-0000-0000-0000-000000000000"}):
+        yield Input(logs_of(results, 50) * (count // 50), suppress=entries([it], 5), matching=3)
 
 
 def accepted_by_snippet(text, uri):

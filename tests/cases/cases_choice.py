@@ -97,6 +97,13 @@ def staying():
     rejected = {"suppressions": [{"kind": "external", "status": "rejected"}]}
     given = log(run("lint", found("a.c", 3, **rejected), found("b.c", 3)))
     yield chosen("a chosen hit stays", ["--at", "a.c"], given, numbers(0, 0, 2, 0), made={"n": pretty(entries())})
+    yield chosen(
+        "a hit that has suppressions is not alike",
+        ["--at", "a.c:3"],
+        log(run("lint", found("a.c", 3), found("a.c", 9, **rejected))),
+        numbers(1, 0, 1, 1),
+        made={"n": pretty(entries(entry("m")))},
+    )
     yield life(
         "a chosen hit is absent",
         [*ACCEPT, "--at", "c.c", "--at", "b.c", "--baseline", "b", "--states", "new,absent"],

@@ -45,13 +45,12 @@ def suppressing(name, given, words, answer, more=(), group="fifth"):
 
 
 def examples():
-    """In version 2 no result has a snippet."""
+    """Each version of matching compares snippets the same."""
     for given, words, answer in SNIPPETS:
         name = f"{json.dumps(given)} on {words}"
         yield suppressing(f"version 3: {name}", given, words, answer, ["--matching", "3"])
-        unmatched = f"{'a ' * len(listed(words))}{len(given)}"
-        yield suppressing(f"version 2: {name}", given, words, unmatched, ["--matching", "2"])
-        yield suppressing(f"no version: {name}", given, words, unmatched)
+        yield suppressing(f"version 2: {name}", given, words, answer, ["--matching", "2"])
+        yield suppressing(f"no version: {name}", given, words, answer)
 
 
 # The same for entries with a limit on how many results they match.
@@ -74,27 +73,43 @@ def limits():
         name = f"{json.dumps(given)} on {words}"
         yield suppressing(f"limited: {name}", given, words, answer)
         yield suppressing(f"limited, version 3: {name}", given, words, answer, ["--matching", "3"])
-    one_of_two = rules({"max": 1, "uri": "a.c"}, version=5)
     logs = [log(run("lint", *[spoken(it) for it in listed(words)])) for words in ("b a@3", "a@3 a@4")]
-    counts = [gate(new=[0, it, 0, 0], suppressed={"new": [0, 1, 0, 0]}) for it in (3, 2)]
-    states = ["new"] * 4
-    yield merging("fifth", "a limit is that of all logs", logs, suppress=one_of_two, check=tells(counts[0], states))
-    yield merging(
-        "fifth",
-        "copies use up no limit",
-        logs,
-        suppress=one_of_two,
-        more=["--once"],
-        check=copied(counts[1], [[1, 0]], states),
-    )
-    yield merging(
-        "fifth",
-        "an entry that is over uses up no limit",
-        [log(run("lint", spoken(listed("a")[0])))],
-        suppress=rules({"max": 1, "uri": "a.c", "expires": 20250130}, {"max": 1, "uri": "a.c"}, version=5),
-        more=["--today", "20250131"],
-        check=tells(gate(unused=1, suppressed={"new": [0, 1, 0, 0]}), ["new"]),
-    )
+    for most, once, active, marks in LIMITED_LOGS:
+        states = ["new"] * 4
+        counted = [it for it, mark in enumerate(marks) if not (once and it == 2)]
+        held = sum(marks[it] for it in counted)
+        counts = gate(new=[0, active, 0, 0], suppressed={"new": [0, held, 0, 0]})
+        assert active + held == len(counted)
+        told = copied(counts, [[1, 0]], states) if once else tells(counts, states)
+        yield merging(
+            "fifth",
+            f"a limit of {most} is that of all logs{', and copies use up none' * once}",
+            logs,
+            suppress=rules({"max": most, "uri": "a.c"}, version=5),
+            more=["--once"] * once,
+            check=marked_as(marks, told),
+        )
+
+
+# In the logs `b a@3` and `a@3 a@4`: the limit of an entry on a.c, whether --once is given, how many results are active,
+# and which results are suppressed. The third result is a copy, which has what its finding has.
+LIMITED_LOGS = [
+    (1, False, 3, [0, 1, 0, 0]),
+    (2, False, 2, [0, 1, 1, 0]),
+    (1, True, 2, [0, 1, 1, 0]),
+    (2, True, 1, [0, 1, 1, 1]),
+]
+
+
+def marked_as(marks, told):
+    """Checks how many suppressions each result of the merged log has, in order, and what `told` checks."""
+
+    def check(answer):
+        results = [it for run in json.loads(answer.out)["runs"] for it in run["results"]]
+        found = [len(it["suppressions"]) for it in results]
+        return [f"suppressions {found}, and not {marks}"] * (found != marks) + told(answer)
+
+    return check
 
 
 def kept_limits():
@@ -113,6 +128,26 @@ def kept_limits():
             last="gate: fail, hits 1, max 0",
             made={"n": pretty(entries(*made, version=5))},
         ).into("fifth")
+    many = log(run("lint", bad("a@3"), bad("a@4"), bad("b@5")))
+    yield life(
+        "a limit stays with another number",
+        "--suppress s --suppress-out n --prune",
+        many,
+        {"s": rules({"uri": "c.c"}, limited, version=5)},
+        status=1,
+        said=["sarif_gate: 0 accepted, 0 stay, 1 pruned, 1 entries"],
+        last="gate: fail, hits 2, max 0",
+        made={"n": pretty(entries(limited, version=5))},
+    ).into("fifth")
+    yield life(
+        "what a limit leaves becomes known if it is adopted",
+        "--suppress s --known k --adopt",
+        many,
+        {"s": rules(limited, version=5)},
+        status=1,
+        said=["sarif_gate: 3 known, 0 left out, 0 kept"],
+        last="gate: fail, hits 2, max 0",
+    ).into("fifth")
     yield life(
         "a limited entry before an accepted one",
         "--suppress s",
@@ -269,7 +304,7 @@ def accepted():
             made={"n": pretty(made)},
         ).into("fifth")
     side = {"new": [1, 0, 0, 0]}
-    for word, version, hits in (('a"x"@90', "3", 0), ('a"z"', "3", 1), ('a"x"@90', "2", 1)):
+    for word, hits, version in [(*it, version) for it in (('a"x"@90', 0), ('a"z"', 1)) for version in "23"]:
         counts = gate("fail", 1, unused=2, **side) if hits else gate(unused=1, suppressed=side)
         yield merging(
             "fifth",
@@ -325,23 +360,29 @@ def versions_of_files():
 
 
 def known_logs():
-    """Only with version 3 of matching, the known log has regions and snippets, and entries read them."""
+    """Only with version 3 of matching, the known log has regions and snippets. Entries read them in each version."""
     given = log(run("lint", bad('a"x"@3')))
     place = {"artifactLocation": {"uri": "a.c"}}
     region = {"snippet": {"text": "x"}, "startLine": 3}
-    failed, passed = "fail, hits 1", "pass, hits 0"
-    for version, physical, verdict in (("2", place, failed), ("3", {**place, "region": region}, passed)):
+    for version, physical in (("2", place), ("3", {**place, "region": region})):
         result = {**bad("a"), "locations": [{"physicalLocation": physical}]}
         yield life(
             f"version {version}: what is known of a result whose snippet an entry names",
             f"--matching {version} --known k --adopt --suppress s",
             given,
             {"s": rules({"snippet": "x"}, version=5)},
-            status=int(verdict == failed),
             said=["sarif_gate: 1 known, 0 left out, 0 kept"],
-            last=f"gate: {verdict}, max 0",
+            last="gate: pass, hits 0, max 0",
             made={"k": pretty(known(rerun("lint", result)))},
         ).into("fifth")
+    yield merging(
+        "fifth",
+        "a result is unchanged, although its known one has no snippet",
+        [given],
+        baselines=[pretty(known(rerun("lint", {**bad("a"), "locations": [{"physicalLocation": place}]})))],
+        suppress=rules({"snippet": "x"}, version=5),
+        check=tells(gate(suppressed={"unchanged": [1, 0, 0, 0]}), ["unchanged"]),
+    )
 
 
 def cases():

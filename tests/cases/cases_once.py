@@ -1,7 +1,7 @@
 """Cases of --once: which results are copies, and what of them is written, counted, accepted and known."""
 
 from cases import *
-from cases_life import GUID, entries, life, pretty
+from cases_life import GUID, entries, known, life, pretty, rerun
 from cases_words import merging
 
 
@@ -177,7 +177,87 @@ def later():
     )
 
 
+def kept_known():
+    """Absent results of a tool that wasn't heard stay known, but none that is alike to a known current result."""
+    failed = {"tool": {"driver": {"name": "lint"}}}
+    here, moved = at_line(line=315), at_line()
+    made = lambda *runs: {"k": pretty(known(*(rerun("lint", *it) for it in runs)))}
+    warned = lambda result: {"level": "warning", **result}
+    words = "--known k --baseline b"
+    # In version 2 the result matches the first of the two in the baseline, and the second is absent.
+    sources = log(failed, run("lint", here)), {"b": lint(moved, here)}
+    yield life(
+        "an absent result stays known, alike or not, without the option",
+        words,
+        *sources,
+        said=["sarif_gate: 2 known, 0 left out, 1 kept"],
+        made=made([warned(ruled(**at("h.c")))], [warned(ruled(**at("h.c")))]),
+    )
+    yield life(
+        "an absent result that is alike to a known one isn't kept",
+        f"--once {words}",
+        *sources,
+        said=["sarif_gate: 1 known, 0 left out, 0 kept", "sarif_gate: 0 copies"],
+        made=made([warned(here)]),
+    )
+    yield life(
+        "an absent result that is alike to none is kept",
+        f"--once --matching 3 {words}",
+        *sources,
+        said=["sarif_gate: 2 known, 0 left out, 1 kept", "sarif_gate: 0 copies"],
+        made=made([warned(moved)], [warned(here)]),
+    )
+    # In version 3 it matches the last of two with one GUID.
+    own = at_line(correlationGuid=GUID)
+    yield life(
+        "version 3: an absent result that is alike to a known one isn't kept",
+        f"--once --matching 3 {words}",
+        log(failed, run("lint", own)),
+        {"b": lint(own, at_line("b.c", 1, correlationGuid=GUID))},
+        said=["sarif_gate: 1 known, 0 left out, 0 kept", "sarif_gate: 0 copies"],
+        made=made([warned(own)]),
+    )
+    others = [("a level", {"level": "note"}), ("own suppressions", {"suppressions": [{"kind": "external", "status": "rejected"}]})]
+    for name, members in others:
+        unlike = at_line(line=315, **members)
+        yield life(
+            f"an absent result with other {name} is kept",
+            f"--once {words}",
+            log(failed, run("lint", here)),
+            {"b": lint(moved, unlike)},
+            said=["sarif_gate: 2 known, 0 left out, 1 kept", "sarif_gate: 0 copies"],
+            made=made([warned(here)], [warned(unlike)]),
+        )
+    nowhere = ruled(**at("h.c"))
+    yield life(
+        "an absent result without a line is kept",
+        f"--once {words}",
+        log(failed, run("lint", nowhere)),
+        {"b": lint(nowhere, nowhere)},
+        said=["sarif_gate: 2 known, 0 left out, 1 kept", "sarif_gate: 0 copies"],
+        made=made([warned(nowhere)], [warned(nowhere)]),
+    )
+    yield life(
+        "an absent result that is alike to one that is left out is kept",
+        f"--once {words} --today 20250131 --suppress s",
+        *sources[:1],
+        {**sources[1], "s": rules({"tool": "lint", "expires": 20250131}, version=2)},
+        said=["sarif_gate: 1 known, 1 left out, 1 kept", "sarif_gate: 0 copies"],
+        made=made([warned(here)]),
+    )
+    first = at_line(line=300)
+    yield life(
+        "an absent result that is alike to a known one before which an entry is used up isn't kept",
+        f"--once {words} --suppress s",
+        log(failed, run("lint", first, here)),
+        {"b": lint(first, moved, here), "s": rules({"max": 1, "uri": "h.c"}, version=5)},
+        said=["sarif_gate: 2 known, 0 left out, 0 kept", "sarif_gate: 0 copies"],
+        made=made([warned(first), warned(here)]),
+    )
+
+
 def cases():
     yield from rows()
     yield from fields()
     yield from later()
+    yield from kept_known()

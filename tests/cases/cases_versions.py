@@ -169,8 +169,8 @@ def ignored():
 
 SPACED = 'a"x\\u0020=\\u00201"'
 
-# The entries of a file of version 5, results, which of these are suppressed (s) or active (a) in version 3 of matching,
-# and how many entries are unused.
+# The entries of a file of version 5, results, which of these are suppressed (s) or active (a) in each version of
+# matching, and how many entries are unused.
 SEEN = [
     ([{"snippet": " x=1"}], f'{SPACED} a"x=2" a', "saa", 0),
     ([{"snippet": "", "tool": "lint"}], 'a"x" a', "aa", 1),
@@ -184,6 +184,7 @@ SEEN = [
     ([{"snippet": "x", "guid": GUIDS["G"]}], 'a"x"+G a"x"+H a"y"+G a"x"', "saaa", 0),
     ([{"snippet": "x", "message": "m"}, {"message": "n"}], 'a"x" a"x"/n a"y"', "ssa", 0),
     ([{"snippet": "x", "uriPrefix": "a"}, {"snippet": "y", "ruleId": "R1"}], 'a"x" b"x" b"y"', "sas", 0),
+    ([{"snippet": "x", "tool": "lint"}, {"snippet": ""}, {"tool": "lint", "uri": "b.c"}], 'a"x" b"x"', "ss", 1),
 ]
 
 # Entries of a file of this version that aren't read, and why.
@@ -196,20 +197,11 @@ UNREAD = [
 ]
 
 
-# The same in version 2, where no result has a snippet: an entry matches only if it names none.
-UNSEEN = [
-    ([{"snippet": None, "tool": "lint"}], 'a"x" a', "ss", 0),
-    ([{"snippet": "x", "message": "m"}, {"message": "n"}], 'a"x" a"x"/n a"y"', "asa", 1),
-    ([{"snippet": "x", "tool": "lint"}, {"snippet": ""}, {"tool": "lint", "uri": "b.c"}], 'a"x" b"x"', "as", 2),
-    *((entries, words, "a" * len(wanted), 1) for entries, words, wanted, _ in SEEN[:3]),
-]
-
-
 def snippets():
     """Entries that name snippets, with both versions of matching."""
-    for version, table in (("2", UNSEEN), ("3", SEEN)):
+    for version in ("2", "3"):
         more = ["--matching", version]
-        for entries, words, wanted, unused in table:
+        for entries, words, wanted, unused in SEEN:
             suppressed = {"new": [0, wanted.count("s"), 0, 0]}
             yield merging(
                 "snippets",

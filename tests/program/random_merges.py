@@ -23,7 +23,7 @@ class Wrong(Exception):
 
 
 class Merged:
-    """The log that a merge wrote. Results are listed run by run."""
+    """The log that a merge wrote. Results are listed run by run. Copies are no findings."""
 
     def __init__(self, text, policy):
         log = json.loads(text)
@@ -32,7 +32,9 @@ class Merged:
         results = [run.get("results") or [] for run in self.runs]
         self.current = [[it for it in run if it["baselineState"] != "absent"] for run in results]
         self.absent = [[it for it in run if it["baselineState"] == "absent"] for run in results]
-        self.findings = {(r, s): it for r, run in enumerate(results) for s, it in enumerate(run)}
+        every = {(r, s): it for r, run in enumerate(results) for s, it in enumerate(run)}
+        self.copies = set(map(tuple, self.gate.get("copies", [])))
+        self.findings = {place: it for place, it in every.items() if place not in self.copies}
         self.hits = {place for place, it in self.findings.items() if self.is_hit(it)}
 
     def is_hit(self, result):

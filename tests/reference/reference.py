@@ -10,10 +10,12 @@ import os
 import re
 import sys
 
+import reference_diff
 from reference_arguments import NoArguments, Unread, replaced
+from reference_change import Change
 from reference_entries import read_rules
 from reference_json import Fault, compact, read_json, stripped
-from reference_life import Choice, Known, PastLimit, Renewed, failed, file_of, happened, unused
+from reference_life import Choice, Known, PastLimit, Renewed, failed, file_of, happened, is_hit, unused
 from reference_matching import fields, has_evidence, partners, region_and_snippet, state
 from reference_members import KINDS, LEVELS, STATES, STATUSES, guid, index, objects, of_kind, one_of, texts
 
@@ -182,9 +184,7 @@ class Record:
         self.rule = identity
         self.level = head.level(self.kind, own, descriptor, invocation)
         self.place = self.placed(head, location, artifact)
-        self.region, self.snippet = None, None
-        if checks.version == 3 or checks.once:
-            self.region, self.snippet = region_and_snippet(result, self.place)
+        self.region, self.snippet = region_and_snippet(result, self.place)
 
     def status(self, suppression):
         if one_of(suppression, "kind", ("inSource", "external"), "BadSuppression") is None:
@@ -294,10 +294,24 @@ def same(one, other):
     return type(one) is type(other) and compact(one) == compact(other)
 
 
+class Diff:
+    """The bytes of a diff, the scope of the change, and the roots of URIs."""
+
+    def __init__(self, source, scope="lines", roots=()):
+        self.source, self.scope, self.roots = source, scope, roots
+
+    def read(self):
+        try:
+            return Change(self.source, self.scope, self.roots)
+        except reference_diff.Fault as fault:
+            where = "" if fault.line is None else f", line {fault.line}"
+            raise Refused(f"diff{where}", fault.cause) from None
+
+
 class Merge:
     """A merge of sources, which are byte strings."""
 
-    def __init__(self, logs, baselines, suppress=None, policy=None, today=None, checks=None):
+    def __init__(self, logs, baselines, suppress=None, policy=None, today=None, checks=None, diff=None):
         self.policy, self.checks, self.today = policy or Policy(), checks or Checks(), today
         check_number(logs, baselines)
         self.runs, self.results = 0, 0
@@ -307,6 +321,7 @@ class Merge:
         ]
         self.entries = self.read_entries(suppress, today)
         self.file = file_of(suppress)
+        self.change = None if diff is None else diff.read()
         self.inputs = [run for log in logs for run in log]
         self.before = [run for log in baselines for run in log]
         self.every, self.every_before = self.findings(logs, "log", False), self.findings(baselines, "baseline", True)
@@ -421,8 +436,16 @@ class Merge:
             self.counts[finding.state][side][3 - LEVELS.index(finding.record.level)] += 1
         shown = 4 - LEVELS.index(self.policy.fail_on)
         self.hits = sum(sum(self.counts[it]["active"][:shown]) for it in self.policy.states)
+        if self.change is not None:
+            would_be = [it for it in self.merged() if is_hit(self, it)]
+            self.outside = sum(not self.is_inside(it) for it in would_be)
+            self.hits -= self.outside
         self.verdict = "fail" if self.hits > self.policy.max else "pass"
         self.without = sum(run.get("results") is None for run in self.inputs)
+
+    def is_inside(self, finding):
+        """Returns whether a finding is inside of the change; without a change all are."""
+        return self.change is None or self.change.is_inside(finding.run, finding.value, finding.state)
 
     def merged(self):
         """The findings of the merged log, in its order."""
@@ -450,7 +473,13 @@ class Merge:
         }
         if self.checks.once:
             gate["copies"] = self.copies()
+        if self.change is not None:
+            gate["diff"] = {**self.changed(), "scope": self.change.scope}
         return compact({"properties": {"gate": gate}, "runs": runs, "version": "2.1.0"})
+
+    def changed(self):
+        """The numbers of the change."""
+        return {"files": len(self.change.files), "lines": self.change.lines, "outside": self.outside}
 
     def summary(self):
         lines = ["state           error    warning       note       none suppressed\n"]
@@ -458,6 +487,8 @@ class Merge:
             counts = self.counts[state]
             numbers = [*counts["active"], sum(counts["suppressed"])]
             lines.append(f"{state:<10}" + "".join(f"{number:>11}" for number in numbers) + "\n")
+        if self.change is not None:
+            lines.append("diff: " + ", ".join(f"{name} {n}" for name, n in self.changed().items()) + "\n")
         lines.append(f"gate: {self.verdict}, hits {self.hits}, max {self.policy.max}\n")
         return "".join(lines)
 
@@ -478,7 +509,7 @@ USAGE = """Usage: sarif_gate [--baseline F]... [--suppress F] [--today N] [--wor
     [--reason TEXT] [--until N] [--at PLACE]... [--rule ID]... [--root PREFIX]...
     [--unused F] [--known F] [--adopt] [--require-success]
     [--allow-external-properties] [--matching N] [--ignore-fingerprint NAME]... [--once]
-    [--explain] --out F LOG... [@FILE]...
+    [--diff F] [--diff-scope SCOPE] [--explain] --out F LOG... [@FILE]...
 """
 
 
@@ -491,7 +522,7 @@ class Usage(Exception):
 
 
 RANGES = {"today": (10000101, 99991231), "workers": (1, 64), "max": (0, 2**32 - 1), "matching": (2, 3)}
-VALUES = ("suppress", "out", "fail-on", "states", "suppress-out", "reason", "until", "unused", "known")
+VALUES = ("suppress", "out", "fail-on", "states", "suppress-out", "reason", "until", "unused", "known", "diff", "diff-scope")
 FLAGS = ("accept", "prune", "adopt", "explain", "require-success", "allow-external-properties", "once")
 # Only their names count here: reference_reports.py makes the reports.
 REPORTS = ("text", "github", "markdown", "gitlab", "html", "junit", "azure")
@@ -550,7 +581,7 @@ class Request:
             self.given[name] = self.checked(name, value)
 
     def checked(self, name, value):
-        if name == "fail-on" and value not in LEVELS:
+        if name == "fail-on" and value not in LEVELS or name == "diff-scope" and value not in ("lines", "files"):
             raise Usage(2)
         if name == "states":
             return listed(value)
@@ -575,6 +606,9 @@ class Request:
             and (until is None or self.today is not None and self.today <= until)
             and not (has("known") and has("accept"))
             and (has("known") or not has("adopt"))
+            and (has("diff") or not has("diff-scope"))
+            and not (has("diff") and "absent" in self.given.get("states", ()))
+            and not (self.given.get("diff") == "-" and "-" in self.logs)
         )
 
     def have_clash(self):
@@ -593,6 +627,8 @@ class Request:
             return True
         if file == "-":
             return False
+        if file == self.given.get("diff"):
+            return True
         is_only = name == "known" and len(self.baselines) == 1
         may_replace_baseline = name == "out" or is_only
         return file in self.logs or file in self.baselines and not may_replace_baseline
@@ -645,7 +681,10 @@ def asked(request):
         read_file(f"baseline {number}", name) for number, name in enumerate(request.baselines)
     ]
     suppress = None if request.suppress is None else read_file("suppressions", request.suppress)
-    return Merge(logs, baselines, suppress, request.policy, request.today, request.checks)
+    name, diff = request.given.get("diff"), None
+    if name is not None:
+        diff = Diff(read_file("diff", name, True), request.given.get("diff-scope", "lines"), request.roots)
+    return Merge(logs, baselines, suppress, request.policy, request.today, request.checks, diff)
 
 
 def write_file(name, text, place="output"):

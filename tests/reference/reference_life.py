@@ -5,7 +5,7 @@ from dataclasses import replace
 
 from reference_entries import read_rules
 from reference_json import compact, quoted, read_json, stripped
-from reference_matching import telling
+from reference_matching import fields, telling
 from reference_reports import Found, Policy, reported, shown
 
 MOST_ENTRIES = 10_000
@@ -143,7 +143,7 @@ class Renewed:
     def __init__(self, merge, accept=False, prune=False, reason=None, until=None, choice=None):
         goes = [prune and self.goes(merge, number) for number in range(len(merge.entries))]
         kept = [it for it, is_gone in zip(merge.file["suppressions"], goes) if not is_gone]
-        hits = [it for it in merge.merged() if accept and is_hit(merge, it)]
+        hits = [it for it in merge.merged() if accept and is_hit(merge, it) and merge.is_inside(it)]
         chosen = able(choice.chosen(hits) if choice else hits)
         added = []
         seen = set()
@@ -217,7 +217,7 @@ def left_out(merge, finding, adopt):
     return not adopt and (finding.state == "new" or not finding.is_sure) and stops
 
 
-def known_result(record, artifacts):
+def known_result(record, artifacts, has_regions):
     """A record as a result. A base without a URI is added to `artifacts`."""
     uri, base = record.place
     place = there({"uri": uri, "uriBaseId": base}) if uri is not None else None
@@ -232,7 +232,7 @@ def known_result(record, artifacts):
             "level": record.level if is_failure else None,
             "ruleId": record.rule or None,
             "message": there({"text": text, "id": identity, "arguments": list(arguments) or None}),
-            "locations": place and [{"physicalLocation": there({"artifactLocation": place, "region": region_of(record)})}],
+            "locations": place and [{"physicalLocation": there({"artifactLocation": place, "region": region_of(record) if has_regions else None})}],
             "correlationGuid": None if record.guid is None else hyphenated(record.guid),
             "fingerprints": record.full or None,
             "partialFingerprints": record.partial or None,
@@ -249,9 +249,9 @@ def region_of(record):
     return {**found, **snippet} or None
 
 
-def known_run(tool, records):
+def known_run(tool, records, has_regions):
     artifacts = []
-    results = [known_result(record, artifacts) for record in records]
+    results = [known_result(record, artifacts, has_regions) for record in records]
     run = {"artifacts": artifacts or None, "results": results, "tool": {"driver": {"name": tool}}}
     return there(run)
 
@@ -263,15 +263,19 @@ class Known:
         gone = {id(it) for it in merge.current if left_out(merge, it, adopt)}
         stay = [it for it in merge.current if id(it) not in gone]
         kept = [it for it in merge.absent if not heard(merge, tool_of(it.run))]
+        if merge.checks.once:
+            alike = {fields(it.record) for it in stay} - {None}
+            kept = [it for it in kept if fields(it.record) not in alike]
         tools = dict.fromkeys(map(tool_of, [*merge.before, *merge.inputs]))
         runs = []
+        has_regions = merge.checks.version == 3 or merge.checks.once
         for tool in tools:
             sides = [(merge.inputs, stay), (merge.before, kept)]
             for sources, findings in sides if merge.checks.version == 2 else sides[::-1]:
                 for run in sources:
                     records = [it.record for it in findings if it.run is run]
                     if tool_of(run) == tool and records:
-                        runs.append(known_run(tool, records))
+                        runs.append(known_run(tool, records, has_regions))
         self.known, self.left, self.kept = len(stay) + len(kept), len(gone), len(kept)
         self.text = pretty({"runs": runs, "version": "2.1.0"}) + "\n"
         if len(self.text.encode()) > MOST_BYTES:

@@ -383,10 +383,11 @@ def link_of(found):
 
 @dataclass
 class Reports:
-    """The reports of a merged log under a policy."""
+    """The reports of a merged log under a policy. With a change, only what is inside of it is reported."""
 
     log: dict
     policy: Policy
+    change: object = None
     found: list = field(init=False)
     results: list = field(init=False)
     unshown: int = field(init=False)
@@ -398,10 +399,13 @@ class Reports:
         every = [
             reported(it, self.policy)
             for it in self.found
-            if it.is_active() and it.state in self.policy.states
+            if it.is_active() and it.state in self.policy.states and self.is_inside(it)
         ]
         self.results = [it for it in every if it.is_hit or self.policy.show == "all"]
         self.unshown = len(every) - len(self.results)
+
+    def is_inside(self, found):
+        return self.change is None or self.change.is_inside(found.run, found.result, found.state)
 
     def hits(self):
         return sum(it.is_hit for it in self.results)
