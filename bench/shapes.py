@@ -10,7 +10,8 @@ from dataclasses import replace
 from shape_parts import LONG, MEGABYTE, OTHER_HASH, SAME_HASH, Input
 from shape_parts import at, entries, hashed, in_region, log, logs_of, message, placed, run
 from shapes_fifth import accepted_by_snippet, entries_and_long_snippet, entries_of_one_snippet, entries_of_snippets
-from shapes_fifth import entries_with_max, message_entries_and_long_snippet, of_message, of_print
+from shapes_fifth import an_entry_that_admits_all, entries_used_up_in_turn, entries_with_max, long_entry_and_used_up_ones
+from shapes_fifth import message_entries_and_long_snippet, of_message, of_print
 from shapes_shown import told_files, told_long_snippets, told_names, told_snippets
 
 # ---- A long string that many results share
@@ -668,6 +669,10 @@ SHAPES = {
     "long_snippet_entry": (entries_and_long_snippet, 1_000),
     # Entries with `max` 1 and a condition that is true for all results.
     "entries_max": (entries_with_max({"tool": "t"}, {"tool": "u"}), 10_000),
+    # Entries with `max` that are used up one after the other, also beside one with a long snippet, and one that admits all.
+    "entries_max_in_turn": (entries_used_up_in_turn, 10_000),
+    "entries_max_long": (long_entry_and_used_up_ones, 200),
+    "entry_max_of_all": (an_entry_that_admits_all, 100_000),
 }
 # The same in version 2.
 BOTH_VERSIONS = (
@@ -688,5 +693,7 @@ BOTH_VERSIONS = (
     "entries_rule_and_snippet",
     "entries_snippet_print",
     "entries_snippet_message",
+    "long_snippet_message",
+    "long_snippet_entry",
 )
 SHAPES |= {f"{name}_2": (in_version_2(SHAPES[name][0]), SHAPES[name][1]) for name in BOTH_VERSIONS}

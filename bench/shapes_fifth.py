@@ -1,6 +1,6 @@
 """Costly inputs with suppression files of version 5, each with its twin."""
 
-from shape_parts import MEGABYTE, Input, entries, in_region, log, logs_of, message, run
+from shape_parts import MEGABYTE, Input, at, entries, in_region, log, logs_of, message, run
 
 
 def entries_of_snippets(condition):
@@ -57,6 +57,33 @@ def entries_with_max(condition, harmless):
             yield Input([text], suppress=entries([{**it, "max": 1}] * count, 5))
 
     return make
+
+
+def entries_used_up_in_turn(count):
+    """Entries with `max` 1, 100 for each file, and 103 results in each file, one file after the other. So entries are used
+    up again and again. They are compared with entries without `max`."""
+    uris = [f"{i}.c" for i in range(count // 100)]
+    text = log(run([message(f"m{i}", ruleId="R", **at(uri)) for uri in uris for i in range(103)]))
+    for limit in ({"max": 1}, {}):
+        yield Input([text], suppress=entries([{"uri": uri, **limit} for uri in uris] * 100, 5))
+
+
+def long_entry_and_used_up_ones(count):
+    """An entry with a snippet of 10 megabytes and a `max` that is never reached, and entries with `max` 1, one for each
+    file, whose results come one file after the other. They are compared with entries without `max`."""
+    uris = [f"{i}.c" for i in range(count)]
+    text = log(run([message(f"m{i}", ruleId="R", **at(uri)) for uri in uris for i in range(count)]))
+    for limit in ({"max": 1}, {}):
+        many = [{"snippet": MEGABYTE * 10, **limit}, *({"uri": uri, **limit} for uri in uris)]
+        yield Input([text], suppress=entries(many, 5))
+
+
+def an_entry_that_admits_all(count):
+    """An entry with a `max` that is never reached and a condition that is true for all results, compared with the same
+    entry without `max`."""
+    text = log(run([message(ruleId="R", **in_region(startLine=i + 1)) for i in range(count)]))
+    for limit in ({"max": 4_000_000_000}, {}):
+        yield Input([text], suppress=entries([{"tool": "t", **limit}], 5))
 
 
 def message_entries_and_long_snippet(count):

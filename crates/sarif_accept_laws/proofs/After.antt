@@ -17,7 +17,7 @@ use Rattle.sarif_entries.specs.declared.condition.Condition.{Condition}
 use Rattle.sarif_entries.specs.declared.condition.ConditionKind.TheVariants as kinds
 use Rattle.sarif_entries.specs.Condition.{text_in}
 use Rattle.sarif_entries.specs.File.{File}
-use Rattle.sarif_entries.specs.Matching.{is_empty, matches, is_expired, is_used_up, hold}
+use Rattle.sarif_entries.specs.Matching.{is_empty, matches, is_admitted, is_expired, hold}
 use Rattle.sarif_suppress.specs.Suppressing.{matching, statuses_suppress, statuses_of, is_suppressed, is_unused}
 use Rattle.sarif_entries.specs.Object.{is_object_of, object_of}
 use Rattle.sarif_suppress.specs.Written.{with_object, with_objects, suppressions_of}
@@ -102,7 +102,7 @@ among_accepted counts file (x ∷ xs) (s ∷ ss) r state (suc i) within inside i
 keeps_matching : (prune : Bool) (heard : Heard) (file : File) (rs : List Record) (r : Record) (i : ℕ) → i < length rs → get_or rs i r ≡ r
     → (e : Entry) → matches file.today e r ≡ true → is_kept prune heard file rs e ≡ true
 keeps_matching prune heard file rs r i within is e fits =
-    let met = and_parts (not (is_used_up e.limit r)) _ fits in
+    let met = and_parts (is_admitted e.limit r) _ fits in
     let unexpired = and_parts (not (is_expired file.today e)) (hold e.conditions r) met.1 in
     let used : list_any (λ x. matches file.today e x) rs ≡ true = list_any_at (λ x. matches file.today e x) rs i r within (rw is fits) in
     ap (λ b. not (prune && (is_expired file.today e || (not b && heard (text_in kinds.Tool e.conditions))))) used

@@ -12,7 +12,7 @@ use Rattle.sarif_entries.specs.declared.entry.Entry.{Entry}
 use Rattle.sarif_entries.specs.declared.limit.Limit.{Limit}
 use Rattle.sarif_entries.specs.Condition.{all_kinds, are_among, holds, is_pair}
 use Rattle.sarif_entries.specs.Entries.{with_condition}
-use Rattle.sarif_entries.specs.Matching.{hold, is_expired, is_met, is_past, is_used_up, matches}
+use Rattle.sarif_entries.specs.Matching.{hold, is_expired, is_met, is_past, is_admitted, matches}
 use Rattle.sarif_evidence.specs.Seen.{as_matched, filled}
 use Rattle.sarif_evidence.specs.declared.version.MatchingVersion.{MatchingVersion}
 use Rattle.sarif_evidence.specs.declared.version.MatchingVersion.TheVariants.{Two, Three}
@@ -99,15 +99,14 @@ hold_as version (c ∷ cs) r all =
 -- an entry that matches a result as its entry sees it matches the result
 pub matches_as : (version : MatchingVersion) (today : Option ℕ) (e : Entry) (r : Record) → matches today e (as_matched version r) ≡ true → matches today e r ≡ true
 matches_as version today e r is =
-    let met = and_parts (not (is_used_up e.limit (as_matched version r))) (is_met today e (as_matched version r)) is in
+    let met = and_parts (is_admitted e.limit (as_matched version r)) (is_met today e (as_matched version r)) is in
     let both = and_parts (not (is_expired today e)) (hold e.conditions (as_matched version r)) met.1 in
-    and_from _ _ (left_as version e.limit met.0) (and_from _ _ both.0 (hold_as version e.conditions r both.1))
+    and_from _ _ (admitted_as version e.limit met.0) (and_from _ _ both.0 (hold_as version e.conditions r both.1))
   where
-    left_as : (version : MatchingVersion) (limit : Option Limit) → not (is_used_up limit (as_matched version r)) ≡ true
-        → not (is_used_up limit r) ≡ true
-    left_as version None is = refl
-    left_as Two (Some limit) is = is
-    left_as Three (Some limit) is = is
+    admitted_as : (version : MatchingVersion) (limit : Option Limit) → is_admitted limit (as_matched version r) ≡ true → is_admitted limit r ≡ true
+    admitted_as version None is = refl
+    admitted_as Two (Some limit) is = is
+    admitted_as Three (Some limit) is = is
 
 pub any_as : (version : MatchingVersion) (today : Option ℕ) (es : List Entry) (r : Record)
     → list_any (λ e. matches today e (as_matched version r)) es ≡ true → list_any (λ e. matches today e r) es ≡ true

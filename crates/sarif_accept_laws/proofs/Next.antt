@@ -13,14 +13,14 @@ use Rattle.sarif_entries.specs.declared.fault.FileFault.{FileFault}
 use Rattle.sarif_entries.specs.declared.limit.Limit.{Limit}
 use Rattle.sarif_entries.specs.File.{File}
 use Rattle.sarif_entries.specs.Given.{file_or_none}
-use Rattle.sarif_entries.specs.Matching.{is_met, is_used_up, matches}
+use Rattle.sarif_entries.specs.Matching.{is_met, matches}
 use Rattle.sarif_entries.specs.Numbering.{limit_with, numbered_from, with_number}
 use Rattle.sarif_entries.proofs.EntryLimits.{numbered}
-use Rattle.sarif_filing.proofs.Numbered.{has, has_from}
-use Rattle.sarif_suppress.specs.Limited.{is_used_up_by, limited, limited_after, met_by, spent_after, with_spent}
+use Rattle.sarif_filing.proofs.Numbered.{has}
+use Rattle.sarif_suppress.specs.Limited.{is_used_up_by, limited, limited_after, met_by, admitted_after}
 use Rattle.sarif_suppress.specs.Suppressing.{is_unused, statuses_of, unused_of}
 use Rattle.sarif_suppress.specs.Written.{with_object, with_objects, suppressions_of}
-use Rattle.sarif_suppress.proofs.LimitedResults.{met_spent}
+use Rattle.sarif_suppress.proofs.LimitedResults.{matches_first, met_admitted}
 use Rattle.sarif_accept.specs.Adding.{How, entry_read}
 use Rattle.sarif_accept.specs.Choosing.{entries_read, file_adding}
 use Rattle.sarif_accept.specs.Keeping.{is_kept}
@@ -46,25 +46,7 @@ abbrev pub CountsIn : File → Entry → Type 0
 CountsIn file e = (before : List Record) (r : Record) → matches file.today e (after_others file before r) ≡ is_first file.today before r e
 
 counts_at : (file : File) (n : ℕ) (e : Entry) → slice_get file.entries n ≡ Some e → ((limit : Limit) → e.limit ≡ Some limit → limit.number ≡ n) → CountsIn file e
-counts_at file n e at numbers = λ before r.
-    ap (λ b. not (is_used_up e.limit (with_spent r (spent_after file before r))) && b) (met_spent file.today e r (spent_after file before r))
-    ∙ by_limit before r e.limit refl
-  where
-    turned : (a b : Bool) → (not (a && b) && a) ≡ (a && not b)
-    turned true b = and-true (not b)
-    turned false b = refl
-
-    by_limit : (before : List Record) (r : Record) (limit : Option Limit) → e.limit ≡ limit
-        → (not (is_used_up limit (with_spent r (spent_after file before r))) && is_met file.today e r)
-        ≡ (is_met file.today e r && not (option_map_or (λ (l : Limit). nat_le l.most (met_by file.today e before)) limit false))
-    by_limit before r None is = sym (and-true (is_met file.today e r))
-    by_limit before r (Some limit) is =
-        let test : Entry → Bool = λ x. is_met file.today x r && is_used_up_by file.today before x in
-        let among : has limit.number (spent_after file before r) ≡ test e = has_from test 0 limit.number n file.entries e (omega (arith, numbers limit is)) at in
-        let used : is_used_up_by file.today before e ≡ nat_le limit.most (met_by file.today e before) =
-        ap (λ o. option_map_or (λ (l : Limit). nat_le l.most (met_by file.today e before)) o false) is in
-        let met : Bool = is_met file.today e r in
-        ap (λ b. not b && met) (among ∙ ap (λ b. met && b) used) ∙ turned met (nat_le limit.most (met_by file.today e before))
+counts_at file n e at numbers = λ before r. matches_first file before r n e at numbers
 
 -- what is true at each place is true of all, and the other way round
 all_from : (P : Entry → Type 0) (es : List Entry) → ((n : ℕ) (e : Entry) → slice_get es n ≡ Some e → P e) → AllByRecursion P es
@@ -96,7 +78,7 @@ all_count file numbers = all_from (CountsIn file) file.entries (λ n e at.
 made_count : (file : File) (rs : List Record) (reason : Option (List ℕ)) (until : Option ℕ) → AllByRecursion (CountsIn file) (map (λ x. entry_read x reason until) rs)
 made_count file [] reason until = tt
 made_count file (x ∷ xs) reason until = (
-  λ before r. met_spent file.today (entry_read x reason until) r (spent_after file before r) ∙ sym (and-true (is_met file.today (entry_read x reason until) r)),
+  λ before r. met_admitted file.today (entry_read x reason until) r (admitted_after file before r) ∙ sym (and-true (is_met file.today (entry_read x reason until) r)),
   made_count file xs reason until,
 )
 

@@ -1,7 +1,7 @@
 -- The places of a result: its locations, its related locations, and the steps of its code flows (SARIF 2.1.0, "location
 -- object", "threadFlowLocation object"). Null, and a member of the wrong type, are treated as missing, unless a comment
 -- says otherwise.
-use Rattle.std.specs.Prelude.{◌^◌, ℕ, Bool, ◌&&◌, nat_lt, nat_le, List, map, ◌++◌, Option, Some, None, is_none, is_some, slice_get, codes, if◌then◌else◌, option_map, option_and_then}
+use Rattle.std.specs.Prelude.{◌^◌, ℕ, Bool, ◌&&◌, nat_lt, nat_le, List, map, ◌++◌, Option, Some, None, is_none, is_some, slice_get, codes, if◌then◌else◌, option_and_then}
 use Rattle.std.specs.List.{flat_map, list_any}
 use Rattle.serde_json.specs.Data.{Data}
 use Rattle.serde_json.specs.Find.{as_str, as_array, as_number, as_u64}

@@ -59,7 +59,7 @@ record_same a b e =
     let partial = and_parts (pairs_eq a.partial b.partial) _ full.1 in
     let held = and_parts (pointwise status_eq a.held b.held) _ partial.1 in
     let region = and_parts (option_eq region_eq a.region b.region) _ held.1 in
-    let snippet = and_parts (option_eq bytes_eq a.snippet b.snippet) (pointwise ◌==◌ a.spent b.spent) region.1 in
+    let snippet = and_parts (option_eq bytes_eq a.snippet b.snippet) (pointwise ◌==◌ a.admitted b.admitted) region.1 in
     let four : is_unchanged a b ≡ true =
     and_from (kind_number a.kind == kind_number b.kind) _ kind.0
     (and_from (severity a.level == severity b.level) _ level.0
@@ -73,7 +73,7 @@ record_same a b e =
     let held_is : a.held ≡ b.held = list_same status_eq status_same a.held b.held held.0 in
     let region_is : a.region ≡ b.region = regions_same a.region b.region region.0 in
     let snippet_is : a.snippet ≡ b.snippet = option_same a.snippet b.snippet snippet.0 in
-    let spent_is : a.spent ≡ b.spent = list_same ◌==◌ (λ m n is. (Decides-eqb m n).0 is) a.spent b.spent snippet.1 in
+    let admitted_is : a.admitted ≡ b.admitted = list_same ◌==◌ (λ m n is. (Decides-eqb m n).0 is) a.admitted b.admitted snippet.1 in
     λ i. record {
       tool = tool_is i;
       rule_id = rule_is i;
@@ -87,7 +87,7 @@ record_same a b e =
       held = held_is i;
       region = region_is i;
       snippet = snippet_is i;
-      spent = spent_is i;
+      admitted = admitted_is i;
     }
 
 pub record_refl : (a : Record) → record_eq a a ≡ true
@@ -103,8 +103,8 @@ record_refl a =
     (and_from (pairs_eq a.partial a.partial) _ (pairs_refl a.partial)
     (and_from (pointwise status_eq a.held a.held) _ (list_refl status_eq (λ s. eq-eqb (status_number s) (status_number s) refl) a.held)
     (and_from (option_eq region_eq a.region a.region) _ (regions_refl a.region)
-    (and_from (option_eq bytes_eq a.snippet a.snippet) (pointwise ◌==◌ a.spent a.spent) (option_refl a.snippet)
-    (list_refl ◌==◌ (λ n. eq-eqb n n refl) a.spent))))))))))))
+    (and_from (option_eq bytes_eq a.snippet a.snippet) (pointwise ◌==◌ a.admitted a.admitted) (option_refl a.snippet)
+    (list_refl ◌==◌ (λ n. eq-eqb n n refl) a.admitted))))))))))))
 
 pub records_equal : (a b : Record) → (record_eq a b ≡ true → a ≡ b) × (a ≡ b → record_eq a b ≡ true)
 records_equal a b = (record_same a b, λ is. ap (record_eq a) (sym is) ∙ record_refl a)

@@ -110,4 +110,4 @@ same_is_equal a b =
     && (held_test x.held y.held i
     && (option_eq region_eq x.region y.region
     && (option_eq bytes_eq x.snippet y.snippet
-    && pointwise ◌==◌ x.spent y.spent)))))))))))
+    && pointwise ◌==◌ x.admitted y.admitted)))))))))))

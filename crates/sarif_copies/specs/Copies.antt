@@ -32,7 +32,7 @@ record_eq a b =
     && (pointwise (λ s t. status_number s == status_number t) a.held b.held
     && (option_eq region_eq a.region b.region
     && (option_eq bytes_eq a.snippet b.snippet
-    && pointwise ◌==◌ a.spent b.spent)))))))))))
+    && pointwise ◌==◌ a.admitted b.admitted)))))))))))
 
 -- a result with a URI and a region
 abbrev pub has_line : Record → Bool
@@ -62,13 +62,13 @@ findings_of rs = findings_after [] rs
 
 -- ---- results of two lists
 
--- the result, regardless of the entries of a suppression file that are used up before it
-abbrev pub unspent : Record → Record
-unspent r = record r { spent = [] }
+-- the result, regardless of the entries of a suppression file that admit it
+abbrev pub unadmitted : Record → Record
+unadmitted r = record r { admitted = [] }
 
 -- whether one of these results is alike to r, regardless of such entries
 abbrev pub has_alike : List Record → Record → Bool
-has_alike rs r = list_any (λ q. are_alike (unspent q) (unspent r)) rs
+has_alike rs r = list_any (λ q. are_alike (unadmitted q) (unadmitted r)) rs
 
 -- ---- findings and copies apart
 

@@ -19,15 +19,15 @@ pub(crate) struct WholeRecord<'a, 's> {
     held: &'a Sequence<Status>,
     region: Option<Region>,
     snippet: &'a Option<Text>,
-    spent: &'s Sequence<u32>,
+    admitted: &'s Sequence<u32>,
 }
 
-/// The fields of a record, but with the numbers `spent`.
+/// The fields of a record, but with the numbers `admitted`.
 pub(crate) fn record_with<'a, 's>(
     found: &'a Record,
-    spent: &'s Sequence<u32>,
+    admitted: &'s Sequence<u32>,
 ) -> WholeRecord<'a, 's>
-    ensures { fields_of result ≡ with_numbers found.now spent.now }
+    ensures { fields_of result ≡ with_numbers found.now admitted.now }
 {
     WholeRecord {
         tool: &found.tool,
@@ -42,7 +42,7 @@ pub(crate) fn record_with<'a, 's>(
         held: &found.held,
         region: found.region,
         snippet: &found.snippet,
-        spent,
+        admitted,
     }
 }
 
@@ -50,5 +50,5 @@ pub(crate) fn record_with<'a, 's>(
 pub(crate) fn whole_record<'a>(found: &'a Record) -> WholeRecord<'a, 'a>
     ensures { fields_of result ≡ found.now }
 {
-    record_with(found, &found.spent)
+    record_with(found, &found.admitted)
 }

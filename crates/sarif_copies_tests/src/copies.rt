@@ -69,7 +69,7 @@ fn record(alloc: Global, sketch: &Sketch) -> Result<Record, AllocError> {
         held: Sequence::new(alloc),
         region: region_at(sketch.line),
         snippet: copy_if_there(alloc, sketch.snippet)?,
-        spent: Sequence::new(alloc),
+        admitted: Sequence::new(alloc),
     })
 }
 
@@ -153,7 +153,7 @@ fn changed(alloc: Global, change: u32) -> Result<Record, AllocError> {
         12 => made.held.push(Status::Rejected)?,
         13 => made.snippet = Some(other),
         14 => made.region = region_at(Some(1)),
-        15 => made.spent.push(0)?,
+        15 => made.admitted.push(0)?,
         _ => made.place.uri = None,
     }
     Ok(made)

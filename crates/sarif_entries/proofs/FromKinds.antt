@@ -1,8 +1,8 @@
 -- Reading the conditions of an entry in the order of their kinds, as a loop does.
-use Rattle.std.proofs.Common.{◌≡◌, ℕ, ◌+◌, ◌<◌, ◌≤◌, List, [], ◌∷◌, ◌++◌, length, drop, slice_index_or, Option, Some, None, Result, Ok, Err, refl, sym, ap, ◌∙◌}
+use Rattle.std.proofs.Common.{◌≡◌, ℕ, ◌+◌, ◌<◌, ◌≤◌, List, [], ◌∷◌, ◌++◌, length, drop, slice_index_or, Some, None, Result, Ok, Err, refl, sym, ap, ◌∙◌}
 use Rattle.std.proofs.lemmas.List.{append-nil, drop_more, at_drop_all}
 use Rattle.serde_json.specs.Data.{Data}
-use Rattle.sarif_model.specs.Members.{◌>>=◌, result_map}
+use Rattle.sarif_model.specs.Members.{result_map}
 use Rattle.sarif_model.proofs.ReadEach.{before, before-push}
 use Rattle.sarif_entries.specs.declared.condition.Condition.{Condition}
 use Rattle.sarif_entries.specs.declared.condition.ConditionKind.{ConditionKind}

@@ -6,7 +6,7 @@ use Rattle.std.specs.Cmp.Lexicographic.{pointwise}
 use Rattle.std.specs.List.{All, Contains, list_any}
 use Rattle.std.proofs.Math.Seq.{take-append_seam}
 use Rattle.std.proofs.lemmas.Bool.{false≢true, eqb-true, eq-eqb}
-use Rattle.std.proofs.lemmas.Bool.Decides.{nat_tests, Decides-and, Decides-eqb, Decides-like, Decides-not, Decides-by_and, Decides-by_or}
+use Rattle.std.proofs.lemmas.Bool.Decides.{nat_tests, Decides-and, Decides-eqb, Decides-like, Decides-by_and, Decides-by_or}
 use Rattle.std.proofs.lemmas.List.{take-append-drop}
 use Rattle.std.proofs.lemmas.List.Elements.{All-contains, Contains-get_or}
 use Rattle.std.proofs.lemmas.Map.Views.{Contains-from_any}
@@ -18,7 +18,7 @@ use Rattle.sarif_entries.specs.declared.condition.Condition.TheVariants.{Tool, R
 use Rattle.sarif_entries.specs.declared.entry.Entry.{Entry}
 use Rattle.sarif_entries.specs.declared.limit.Limit.{Limit}
 use Rattle.sarif_entries.specs.Condition.{is_text, begins, is_guid, is_snippet, is_pair, are_among, holds, Holds}
-use Rattle.sarif_entries.specs.Matching.{hold, is_past, is_used_up, matches, Meets, Matches}
+use Rattle.sarif_entries.specs.Matching.{hold, is_past, is_admitted, matches, Meets, Matches}
 
 text_means : (wanted found : List ℕ) → Decides (bytes_eq wanted found) (found ≡ wanted)
 text_means wanted found =
@@ -128,31 +128,31 @@ in_time (Some today) (Some expires) = (
     not_before today expires h = grind (arith, nat_tests)
 
 -- the number of an entry is one of those
-spent_means : (number : ℕ) (spent : List ℕ) → Decides (list_any (λ n. nat_eq n number) spent) (Contains spent number)
-spent_means number spent =
-    Decides-like (list_any (λ n. nat_eq n number) spent)
+admitted_means : (number : ℕ) (admitted : List ℕ) → Decides (list_any (λ n. nat_eq n number) admitted) (Contains admitted number)
+admitted_means number admitted =
+    Decides-like (list_any (λ n. nat_eq n number) admitted)
     (λ found. (found.0, found.1, found.2 number))
-    (λ found. (found.0, found.1, λ d. slice_index_or_any spent found.0 d number found.1 ∙ found.2))
-    (Decides-by_or (λ n. nat_eq n number) (λ n. n ≡ number) (list_any (λ n. nat_eq n number)) (λ n. Decides-eqb n number) refl (λ _ _. refl) spent)
+    (λ found. (found.0, found.1, λ d. slice_index_or_any admitted found.0 d number found.1 ∙ found.2))
+    (Decides-by_or (λ n. nat_eq n number) (λ n. n ≡ number) (list_any (λ n. nat_eq n number)) (λ n. Decides-eqb n number) refl (λ _ _. refl) admitted)
   where
     slice_index_or_any : (ns : List ℕ) (k a b : ℕ) → k < length ns → slice_index_or ns k a ≡ slice_index_or ns k b
     slice_index_or_any [] k a b within = absurd (omega (arith, within))
     slice_index_or_any (n ∷ ns) zero a b within = refl
     slice_index_or_any (n ∷ ns) (suc k) a b within = slice_index_or_any ns k a b (omega (arith, within))
 
-left_means : (limit : Option Limit) (r : Record)
-    → Decides (not (is_used_up limit r)) ((own : Limit) → limit ≡ Some own → Contains r.spent own.number → ⊥)
-left_means None r = (λ _ own is _. let never : ⊥ = cc in absurd never, λ _. refl)
-left_means (Some limit) r =
-    Decides-like (not (is_used_up (Some limit) r))
-    (λ no own is has. let same : limit ≡ own = cc in no (rw same has))
-    (λ h has. h limit refl has)
-    (Decides-not (is_used_up (Some limit) r) (spent_means limit.number r.spent))
+admits_means : (limit : Option Limit) (r : Record)
+    → Decides (is_admitted limit r) ((own : Limit) → limit ≡ Some own → Contains r.admitted own.number)
+admits_means None r = (λ _ own is. let never : ⊥ = cc in absurd never, λ _. refl)
+admits_means (Some limit) r =
+    Decides-like (is_admitted (Some limit) r)
+    (λ has own is. let same : own ≡ limit = cc in rw same has)
+    (λ h. h limit refl)
+    (admitted_means limit.number r.admitted)
 
 -- the whole test
 pub means : (today : Option ℕ) (e : Entry) (r : Record) → Decides (matches today e r) (Matches today e r)
 means today e r =
     Decides-like (matches today e r)
-    (λ h. record { in_time = h.1.0; meets = h.1.1; left = h.0 })
-    (λ m. (m.left, (m.in_time, m.meets)))
-    (Decides-and _ _ (left_means e.limit r) (Decides-and _ _ (in_time today e.expires) (meets e.conditions r)))
+    (λ h. record { in_time = h.1.0; meets = h.1.1; admits = h.0 })
+    (λ m. (m.admits, (m.in_time, m.meets)))
+    (Decides-and _ _ (admits_means e.limit r) (Decides-and _ _ (in_time today e.expires) (meets e.conditions r)))

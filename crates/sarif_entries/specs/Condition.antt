@@ -1,5 +1,5 @@
 -- The conditions that an entry may have: the member that has each, how its value is read, and which results meet it.
-use Rattle.std.specs.Prelude.{◌≡◌, ℕ, Bool, true, false, ◌&&◌, List, [], ◌∷◌, ◌++◌, Option, Some, None, Contains, nat_eq, bytes_eq, codes, option_map, option_and_then, if◌then◌else◌}
+use Rattle.std.specs.Prelude.{◌≡◌, ℕ, Bool, false, ◌&&◌, List, [], ◌∷◌, ◌++◌, Option, Some, None, Contains, nat_eq, bytes_eq, codes, option_map, option_and_then, if◌then◌else◌}
 use Rattle.std.specs.Cmp.Lexicographic.{pointwise}
 use Rattle.std.specs.List.{list_any, list_all, starts_with}
 use Rattle.sarif_evidence.specs.Seen.{packed}

@@ -28,14 +28,14 @@ is_expired today e = is_past today e.expires
 abbrev pub is_met : Option ℕ → Entry → Record → Bool
 is_met today e r = not (is_expired today e) && hold e.conditions r
 
--- the `max` of an entry, if it has one, is used up by results before this one
-abbrev pub is_used_up : Option Limit → Record → Bool
-is_used_up None r = false
-is_used_up (Some limit) r = list_any (λ n. nat_eq n limit.number) r.spent
+-- the entry has no `max`, or it admits the result
+abbrev pub is_admitted : Option Limit → Record → Bool
+is_admitted None r = true
+is_admitted (Some limit) r = list_any (λ n. nat_eq n limit.number) r.admitted
 
--- the entry isn't used up, isn't expired, and every condition that it names holds
+-- the entry admits the result, isn't expired, and every condition that it names holds
 abbrev pub matches : Option ℕ → Entry → Record → Bool
-matches today e r = not (is_used_up e.limit r) && is_met today e r
+matches today e r = is_admitted e.limit r && is_met today e r
 
 -- ---- the same as propositions
 
@@ -43,9 +43,9 @@ matches today e r = not (is_used_up e.limit r) && is_met today e r
 abbrev pub Meets : List Condition → Record → Type 0
 Meets cs r = (c : Condition) → Contains cs c → Holds c r
 
--- the expiry date of the entry, if it has one, is not before today, the result satisfies its conditions, and the `max` of
--- the entry, if it has one, isn't used up before the result
+-- the expiry date of the entry, if it has one, is not before today, the result satisfies its conditions, and an entry with
+-- `max` admits the result
 pub record Matches (today : Option ℕ) (e : Entry) (r : Record) : Type 0 where
   pub in_time : (last day : ℕ) → e.expires ≡ Some last → today ≡ Some day → day ≤ last
   pub meets : Meets e.conditions r
-  pub left : (limit : Limit) → e.limit ≡ Some limit → Contains r.spent limit.number → ⊥
+  pub admits : (limit : Limit) → e.limit ≡ Some limit → Contains r.admitted limit.number

@@ -1,7 +1,7 @@
 -- The suppression that is written for an entry (SARIF 2.1.0, suppression object).
 use Rattle.std.specs.Prelude.{ℕ, Bool, true, false, ◌&&◌, List, [], ◌∷◌, bytes_eq, codes}
 use Rattle.std.specs.Option.{option_map_or}
-use Rattle.serde_json.specs.Data.{Data, string, object, Members, no_members, member}
+use Rattle.serde_json.specs.Data.{Data, object, Members, no_members, member}
 use Rattle.serde_json.specs.Find.{as_str, as_object}
 use Rattle.sarif_model.specs.Status.{status_name}
 use Rattle.sarif_model.specs.Written.{text_members}

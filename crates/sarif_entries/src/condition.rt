@@ -340,7 +340,7 @@ fn copy_of_text(text: &Option<Text>) -> Result<Option<Text>, AllocError>
 }
 
 /// A copy of the strings.
-fn copy_of_texts(alloc: Global, texts: &[Text]) -> Result<Sequence<Text>, AllocError>
+pub(crate) fn copy_of_texts(alloc: Global, texts: &[Text]) -> Result<Sequence<Text>, AllocError>
     ensures { IfOk result (λ copy. copy ≡ texts.now) }
 {
     let mut copy = Sequence::new(alloc);
@@ -351,7 +351,7 @@ fn copy_of_texts(alloc: Global, texts: &[Text]) -> Result<Sequence<Text>, AllocE
 }
 
 /// A copy of the pairs.
-fn copy_of_pairs(alloc: Global, pairs: &[(Text, Text)]) -> Result<Pairs, AllocError>
+pub(crate) fn copy_of_pairs(alloc: Global, pairs: &[(Text, Text)]) -> Result<Pairs, AllocError>
     ensures { IfOk result (λ copy. copy ≡ pairs.now) }
 {
     let mut copy = Sequence::new(alloc);

@@ -3,7 +3,7 @@ ghost use Rattle.std.specs.Prelude.{◌≡◌, ◌↔◌, IsTrue};
 ghost use Rattle.sarif_entries.specs.Matching as said;
 
 use crate::condition::{Condition, hold};
-use crate::limit::{Limit, is_used_up};
+use crate::limit::{Limit, is_admitted};
 use sarif_model::{Record, Sequence, Status, Text};
 
 /// An entry of the suppression file: which results it suppresses, until when, and the suppression that it adds.
@@ -41,13 +41,13 @@ impl Entry {
         !self.is_expired(today) && hold(self.conditions.as_slice(), record)
     }
 
-    /// Whether the entry matches the result on that day: it isn't expired, its `max` isn't used up before the result, and
-    /// the result meets every condition that it names.
+    /// Whether the entry matches the result on that day: it isn't expired, it admits the result if it has a `max`, and the
+    /// result meets every condition that it names.
     #[tactic(auto, using(crate::proofs::Meaning::means))]
     pub fn matches(&self, today: Option<u32>, record: &Record) -> bool
         ensures means { IsTrue result ↔ said.Matches today self.now «record».now }
         ensures test { result ≡ said.matches today self.now «record».now }
     {
-        !is_used_up(self.limit, record) && self.is_met(today, record)
+        is_admitted(self.limit, record) && self.is_met(today, record)
     }
 }

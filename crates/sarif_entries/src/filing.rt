@@ -1,4 +1,5 @@
-//! The condition under which an entry is filed: the most specific one.
+//! The condition under which an entry is filed: the most specific one. An entry with `max` is filed under none of its
+//! conditions, but under its number.
 ghost use Rattle.std.specs.Prelude.{◌≡◌, option_map, slice_get, IfOk};
 ghost use Rattle.std.specs.Option.{option_copied};
 ghost use Rattle.sarif_entries.specs.Internal.Filing as said;
@@ -143,20 +144,24 @@ fn has_tool_alone(conditions: &[Condition]) -> bool
 }
 
 impl Entry {
-    /// Returns the GUID that the entry names, under which it then is filed.
+    /// Returns the GUID that the entry names, where the entry is filed under it.
     pub fn guid_key(&self) -> Option<u128>
-        ensures { result ≡ said.guid_in self.now.conditions }
+        ensures { result ≡ said.filed self.now (said.guid_in self.now.conditions) }
     {
+        if self.limit.is_some() {
+            return None;
+        }
         guid_in(self.conditions.as_slice())
     }
 
     /// Returns the snippet that the entry names, without white space, where the entry is filed under it. Returns
     /// `AllocError` if memory for it runs out.
     pub fn snippet_key(&self, alloc: Global) -> Result<Option<Text>, AllocError>
-        ensures { IfOk result (λ key. key ≡ said.snippet_key self.now.conditions) }
+        ensures { IfOk result
+            (λ key. key ≡ said.filed self.now (said.snippet_key self.now.conditions)) }
     {
         let conditions = self.conditions.as_slice();
-        if guid_in(conditions).is_some() {
+        if self.limit.is_some() || guid_in(conditions).is_some() {
             return Ok(None);
         }
         match text_in(conditions, ConditionKind::Snippet) {
@@ -181,8 +186,11 @@ impl Entry {
     /// The first fingerprint that is named, where the entry is filed under it.
     pub fn pair_key(&self, which: PairCondition) -> Option<(&Text, &Text)>
         ensures { option_map (λ p. (p.0.now, p.1.now)) result
-            ≡ said.pair_key which self.now.conditions }
+            ≡ said.filed self.now (said.pair_key which self.now.conditions) }
     {
+        if self.limit.is_some() {
+            return None;
+        }
         let conditions = self.conditions.as_slice();
         match which {
             PairCondition::Full if has_no_guid_or_snippet(conditions) => {
@@ -197,10 +205,11 @@ impl Entry {
 
     /// The text that is named, where the entry is filed under it.
     pub fn text_key(&self, which: TextCondition) -> Option<&Text>
-        ensures { option_copied result ≡ said.text_key which self.now.conditions }
+        ensures { option_copied result
+            ≡ said.filed self.now (said.text_key which self.now.conditions) }
     {
         let conditions = self.conditions.as_slice();
-        if !is_unmarked(conditions) {
+        if self.limit.is_some() || !is_unmarked(conditions) {
             return None;
         }
         match which {
@@ -219,10 +228,11 @@ impl Entry {
 
     /// What is named of the message, with the URI that is named, where the entry is filed under it.
     pub fn message_key(&self, alloc: Global) -> Result<Option<Sequence<Text>>, AllocError>
-        ensures { IfOk result (λ key. key ≡ said.message_key self.now.conditions) }
+        ensures { IfOk result
+            (λ key. key ≡ said.filed self.now (said.message_key self.now.conditions)) }
     {
         let conditions = self.conditions.as_slice();
-        if !is_unmarked(conditions) || has_no_message(conditions) {
+        if self.limit.is_some() || !is_unmarked(conditions) || has_no_message(conditions) {
             return Ok(None);
         }
         let uri = text_in(conditions, ConditionKind::Uri);
@@ -232,10 +242,12 @@ impl Entry {
 
     /// The prefix that is named, where the entry is filed under it.
     pub fn prefix_key(&self) -> Option<&Text>
-        ensures { option_copied result ≡ said.prefix_key self.now.conditions }
+        ensures { option_copied result
+            ≡ said.filed self.now (said.prefix_key self.now.conditions) }
     {
         let conditions = self.conditions.as_slice();
-        if is_unmarked(conditions)
+        if self.limit.is_none()
+            && is_unmarked(conditions)
             && has_no_message_or_uri(conditions)
             && text_in(conditions, ConditionKind::RuleId).is_none()
         {
@@ -245,12 +257,13 @@ impl Entry {
         }
     }
 
-    /// Returns whether the entry has no key, so that it is not filed under any.
+    /// Returns whether the entry has no `max` and no key, so that it is compared with each result.
     pub fn has_no_key(&self) -> bool
-        ensures { result ≡ said.has_no_key self.now.conditions }
+        ensures { result ≡ said.asks_for_none self.now }
     {
         let conditions = self.conditions.as_slice();
-        is_unmarked(conditions)
+        self.limit.is_none()
+            && is_unmarked(conditions)
             && has_tool_alone(conditions)
             && text_in(conditions, ConditionKind::Tool).is_none()
     }

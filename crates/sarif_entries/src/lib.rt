@@ -3,6 +3,7 @@
 #![tactic(auto)]
 
 mod condition;
+mod copying;
 mod entry;
 mod fault;
 mod filing;
@@ -18,6 +19,7 @@ mod snippets;
 mod version;
 
 pub use condition::{Condition, ConditionKind, own_of, text_in};
+pub use copying::copy_of_conditions;
 pub use entry::Entry;
 pub use fault::FileFault;
 pub use filing::{PairCondition, TextCondition};

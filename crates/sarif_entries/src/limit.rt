@@ -21,12 +21,12 @@ fn is_among(numbers: &[u32], number: u32) -> bool
     numbers.iter().any(|own| *own == number)
 }
 
-/// Whether an entry with this limit, if it has one, is used up before the result.
-pub(crate) fn is_used_up(limit: Option<Limit>, record: &Record) -> bool
-    ensures { result ≡ said.is_used_up limit record.now }
+/// Whether an entry with this limit admits the result; one without a limit admits each.
+pub(crate) fn is_admitted(limit: Option<Limit>, record: &Record) -> bool
+    ensures { result ≡ said.is_admitted limit record.now }
 {
     match limit {
-        None => false,
-        Some(limit) => is_among(record.spent.as_slice(), limit.number),
+        None => true,
+        Some(limit) => is_among(record.admitted.as_slice(), limit.number),
     }
 }

@@ -1,8 +1,8 @@
 -- White space is taken out of a string character by character.
-use Rattle.std.proofs.Common.{◌≡◌, ◌<◌, ◌≤◌, ◌==◌, ◌+◌, ◌/◌, ◌%◌, ℕ, Bool, true, false, cond, not, List, [], ◌∷◌, ◌++◌, refl, sym, ap, ◌∙◌, append_assoc, ne_eqb, arith}
+use Rattle.std.proofs.Common.{◌≡◌, ◌<◌, ◌≤◌, ◌==◌, ◌+◌, ◌/◌, ◌%◌, ℕ, Bool, true, false, cond, not, ◌||◌, List, [], ◌∷◌, ◌++◌, refl, sym, ap, ◌∙◌, append_assoc, ne_eqb, arith}
 use Rattle.std.specs.Prelude.{nat_lt}
 use Rattle.std.specs.Char.{encode_utf8}
-use Rattle.std.specs.List.{AllByRecursion}
+use Rattle.std.specs.List.{AllByRecursion, list_any}
 use Rattle.std.proofs.lemmas.Bool.{le-ltb, ltb-true, ltb-false}
 use Rattle.std.proofs.lemmas.Str.{encode_ascii}
 use Rattle.sarif_model.specs.WhiteSpace.{is_white_space}
@@ -73,3 +73,14 @@ pub packed_gone : (kept rest more all : List ℕ) (c : ℕ) → is_white_space c
 packed_gone kept rest more all c goes parts so_far =
     ap (λ b. kept ++ cond b (packed more) (encode_utf8 c ++ packed more)) (sym goes)
     ∙ ap (λ l. kept ++ l) (sym (packed_char c more)) ∙ ap (λ l. kept ++ packed l) (sym parts) ∙ so_far
+
+-- nothing goes if there is no white space
+pub none_gone : (text : List ℕ) → list_any is_white_space text ≡ false → packed text ≡ text
+none_gone [] none = refl
+none_gone (b ∷ text) none =
+    let parts = or_parts (is_white_space b) (list_any is_white_space text) none in
+    rw (parts.0, none_gone text parts.1) refl
+  where
+    or_parts : (a b : Bool) → (a || b) ≡ false → (a ≡ false) × (b ≡ false)
+    or_parts true b is = let never : ⊥ = cc in absurd never
+    or_parts false b is = (refl, is)

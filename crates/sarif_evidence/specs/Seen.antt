@@ -19,7 +19,7 @@ abbrev pub filled : List (List ℕ × List ℕ) → List (List ℕ × List ℕ)
 filled members = filter (λ member. not (length member.1 == 0)) members
 
 -- the result without fingerprints that are not filled, without white space in its snippet, without its own
--- suppressions, and without the entries that are used up before it
+-- suppressions, and without the entries that admit it
 abbrev pub seen : Record → Record
 seen r = record {
   tool = r.tool;
@@ -34,11 +34,11 @@ seen r = record {
   held = [];
   region = r.region;
   snippet = packed_snippet r.snippet;
-  spent = [];
+  admitted = [];
 }
 
 -- what a version of matching reads from a result, unchanged: version 2 doesn't read snippets, and version 3 reads neither
 -- fingerprints that are not filled nor the result's own suppressions
 abbrev pub as_matched : MatchingVersion → Record → Record
 as_matched Two r = record r { snippet = None }
-as_matched Three r = record (seen r) { snippet = r.snippet; spent = r.spent }
+as_matched Three r = record (seen r) { snippet = r.snippet; admitted = r.admitted }

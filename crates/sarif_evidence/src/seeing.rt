@@ -1,10 +1,11 @@
 //! What version 3 sees of a result: fingerprints with a value, and snippets without their white space.
 ghost use Rattle.std.specs.Prelude.{◌≡◌, ◌==◌, IfOk, IsOkAnd, None, Some, not, length};
 ghost use Rattle.std.specs.Prelude.{if◌then◌else◌};
+ghost use Rattle.std.specs.List.{list_any};
 ghost use Rattle.sarif_model.specs.WhiteSpace.{is_white_space};
 ghost use Rattle.sarif_evidence.specs.Seen.{filled, packed, packed_snippet, seen};
 
-use sarif_model::{Message, Pairs, Place, Record, Sequence, Text};
+use sarif_model::{Message, Pairs, Place, Record, Sequence, Text, is_white_space};
 use std::alloc::{AllocError, Global};
 
 /// Returns a result as version 3 sees it: without fingerprints whose value is the empty string, without white space
@@ -26,7 +27,7 @@ pub fn seen(alloc: Global, finding: &Record) -> Result<Record, AllocError>
         held: Sequence::new(alloc),
         region: finding.region,
         snippet: packed_snippet(alloc, &finding.snippet)?,
-        spent: Sequence::new(alloc),
+        admitted: Sequence::new(alloc),
     })
 }
 
@@ -90,9 +91,27 @@ fn packed_snippet(alloc: Global, snippet: &Option<Text>) -> Result<Option<Text>,
     ensures { IfOk result (λ text. text ≡ packed_snippet snippet.now) }
 {
     match snippet {
-        Some(snippet) => filled_text(packed(alloc, snippet.as_str())?),
+        Some(snippet) => filled_text(packed_text(alloc, snippet)?),
         None => Ok(None),
     }
+}
+
+/// A string without its white space. A string without any is shared.
+#[tactic(auto, using(crate::proofs::PackedLemmas::none_gone))]
+fn packed_text(alloc: Global, text: &Text) -> Result<Text, AllocError>
+    ensures { IfOk result (λ kept. kept ≡ packed text.now) }
+{
+    if has_white_space(text.as_str().as_bytes()) {
+        return packed(alloc, text.as_str());
+    }
+    text.clone()
+}
+
+/// Whether there is white space among these bytes.
+fn has_white_space(bytes: &[u8]) -> bool
+    ensures { result ≡ list_any is_white_space bytes.now }
+{
+    bytes.iter().any(|byte| is_white_space(*byte))
 }
 
 /// A string, unless it is empty.
@@ -109,13 +128,13 @@ fn filled_text(text: Text) -> Result<Option<Text>, AllocError>
 pub fn packed(alloc: Global, text: &str) -> Result<Text, AllocError>
     ensures { IfOk result (λ kept. kept ≡ packed text.now) }
 {
-    let mut kept = String::new(alloc);
+    let mut kept = String::with_capacity(alloc, text.len())?;
     for c in text.chars() {
         if !is_white_char(c) {
             kept.push(c)?;
         }
     }
-    Text::copy_of(alloc, &kept)
+    Text::from_string(kept)
 }
 
 /// Whether this is a character of white space.

@@ -58,7 +58,7 @@ fn without_snippet(alloc: Global, finding: &Record) -> Result<Record, AllocError
         held: same_statuses(alloc, finding.held.as_slice())?,
         region: finding.region,
         snippet: None,
-        spent: same_numbers(alloc, finding.spent.as_slice())?,
+        admitted: same_numbers(alloc, finding.admitted.as_slice())?,
     })
 }
 
@@ -77,7 +77,7 @@ pub fn as_matched(
         MatchingVersion::Three => {
             let mut shown = seen(alloc, finding)?;
             shown.snippet = shared_if_there(&finding.snippet)?;
-            shown.spent = same_numbers(alloc, finding.spent.as_slice())?;
+            shown.admitted = same_numbers(alloc, finding.admitted.as_slice())?;
             Ok(shown)
         }
     }

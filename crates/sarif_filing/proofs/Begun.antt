@@ -10,7 +10,7 @@ use Rattle.std.proofs.lemmas.Bool.Decides.{nat_tests}
 use Rattle.std.proofs.lemmas.List.Folds.{flat_map-map, list_any-append}
 use Rattle.sarif_entries.specs.declared.entry.Entry.{Entry}
 use Rattle.sarif_filing.specs.declared.prefixes.PrefixTable.{PrefixTable}
-use Rattle.sarif_entries.specs.Internal.Filing.{prefix_key}
+use Rattle.sarif_entries.specs.Internal.Filing.{filed, prefix_key}
 use Rattle.sarif_entries.specs.Condition.{begins}
 use Rattle.sarif_filing.specs.Numbers.{numbers_at}
 use Rattle.sarif_filing.specs.Internal.Prefixes.{beginnings, hash_of, is_listed, has_length, asks_for_hash, IsPrefixTable, found_under, found_for}
@@ -48,7 +48,7 @@ listed_within lengths n listed =
 
 module _ {S H : Type 0} (entries : List Entry) (table : PrefixTable S H) (n : ℕ) (e : Entry) (prefix : List ℕ) where
   -- the entry's length is marked, and its number is filed under its hash
-  under_its_own : IsPrefixTable entries table → slice_get entries n ≡ Some e → prefix_key e.conditions ≡ Some prefix
+  under_its_own : IsPrefixTable entries table → slice_get entries n ≡ Some e → filed e (prefix_key e.conditions) ≡ Some prefix
       → (is_listed table.lengths.items (length prefix) ≡ true) × (has n (found_under table prefix) ≡ true)
   under_its_own is at key =
       let hash : ℕ = hash_of table.base prefix in
@@ -67,7 +67,7 @@ module _ {S H : Type 0} (entries : List Entry) (table : PrefixTable S H) (n : �
       ap (λ k. take k (prefix ++ rest)) sum ∙ take-append-add prefix rest (length table.lengths.items - length prefix)
 
   pub found_begun : (uri : Option (List ℕ)) → IsPrefixTable entries table → slice_get entries n ≡ Some e
-      → prefix_key e.conditions ≡ Some prefix → begins prefix uri ≡ true → has n (option_map_or (found_for table) uri []) ≡ true
+      → filed e (prefix_key e.conditions) ≡ Some prefix → begins prefix uri ≡ true → has n (option_map_or (found_for table) uri []) ≡ true
   found_begun uri is at key begun =
       let means : (rest : List ℕ) × (uri ≡ Some (prefix ++ rest)) = (begins_means prefix uri).0 begun in
       let own : (is_listed table.lengths.items (length prefix) ≡ true) × (has n (found_under table prefix) ≡ true) = under_its_own is at key in

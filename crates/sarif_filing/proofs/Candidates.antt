@@ -1,6 +1,7 @@
 -- The entries that may match a result: all that match it are among them.
-use Rattle.std.proofs.Common.{◌≡◌, ℕ, Bool, true, false, not, ◌&&◌, ◌||◌, List, [], ◌∷◌, ◌++◌, Option, Some, None, is_some, nat_eq, bytes_eq, refl, sym, ap, ◌∙◌, arith, if◌then◌else◌}
+use Rattle.std.proofs.Common.{◌≡◌, ℕ, Bool, true, false, not, ◌||◌, List, [], ◌∷◌, ◌++◌, Option, Some, None, is_some, nat_eq, bytes_eq, refl, sym, ap, ◌∙◌, arith, if◌then◌else◌}
 use Rattle.std.proofs.lemmas.Bool.{and_parts, false≢true, or_left, or_right}
+use Rattle.std.proofs.lemmas.Bool.Decides.{nat_tests}
 use Rattle.std.specs.Cmp.Lexicographic.{pointwise}
 use Rattle.std.specs.List.{flat_map, list_any}
 use Rattle.std.specs.Option.{option_map_or}
@@ -15,15 +16,16 @@ use Rattle.sarif_entries.specs.declared.condition.Condition.TheVariants as condi
 use Rattle.sarif_entries.specs.declared.condition.ConditionKind.{ConditionKind}
 use Rattle.sarif_entries.specs.declared.condition.ConditionKind.TheVariants as kinds
 use Rattle.sarif_entries.specs.declared.entry.Entry.{Entry}
+use Rattle.sarif_entries.specs.declared.limit.Limit.{Limit}
 use Rattle.sarif_entries.specs.declared.filing.PairCondition.TheVariants.{Full, Partial}
 use Rattle.sarif_entries.specs.declared.filing.TextCondition.TheVariants.{Uri, RuleId, Tool}
 use Rattle.sarif_filing.specs.declared.prefixes.PrefixTable.{PrefixTable}
 use Rattle.sarif_filing.specs.declared.table.Table.{Table}
-use Rattle.sarif_entries.specs.Internal.Filing.{asks_for_guid, asks_for_snippet, asks_for_pair, asks_for_message, asks_for_text, asks_for_none, key_of, key_of_pair, key_beside, snippet_key, prefix_key, message_keys, keys_beside, guid_of, pairs_of, texts_of, guid_in, pairs_in, args_in}
+use Rattle.sarif_entries.specs.Internal.Filing.{asks_for_guid, asks_for_snippet, asks_for_pair, asks_for_message, asks_for_text, asks_for_none, asks_for_number, key_of, key_of_pair, key_beside, filed, snippet_key, prefix_key, message_keys, keys_beside, guid_of, pairs_of, texts_of, guid_in, pairs_in, args_in}
 use Rattle.sarif_filing.specs.Internal.Snippets.{Within, numbers_within, found_within}
 use Rattle.sarif_filing.specs.Internal.Table.{candidates, under_snippet}
 use Rattle.sarif_entries.specs.Condition.{is_text, begins, is_guid, is_snippet, is_pair, are_among, holds, kind_of, is_kind, of_kind, text_of, text_in}
-use Rattle.sarif_entries.specs.Matching.{hold, is_empty, is_expired, is_met, is_used_up, matches}
+use Rattle.sarif_entries.specs.Matching.{hold, is_empty, is_admitted, is_expired, is_met, matches}
 use Rattle.sarif_filing.specs.Numbers.{numbers_from, numbers_at}
 use Rattle.sarif_filing.specs.Internal.Prefixes.{IsPrefixTable, found_for}
 use Rattle.sarif_filing.specs.Internal.Table.{IsTable}
@@ -54,21 +56,21 @@ each_key table snippet keys =
       | Some keyed ↦ refl
     ]
 
-nested : (a s b c d e f g h : List ℕ)
-    → (((((((a ++ s) ++ b) ++ c) ++ d) ++ e) ++ f) ++ g) ++ h ≡ a ++ (s ++ (b ++ (c ++ (d ++ (e ++ (f ++ (g ++ h)))))))
-nested a s b c d e f g h =
-    rw (append_assoc, append_assoc, append_assoc, append_assoc, append_assoc, append_assoc, append_assoc) refl
+nested : (a s b c d e f g l h : List ℕ)
+    → ((((((((a ++ s) ++ b) ++ c) ++ d) ++ e) ++ f) ++ g) ++ l) ++ h ≡ a ++ (s ++ (b ++ (c ++ (d ++ (e ++ (f ++ (g ++ (l ++ h))))))))
+nested a s b c d e f g l h =
+    rw (append_assoc, append_assoc, append_assoc, append_assoc, append_assoc, append_assoc, append_assoc, append_assoc) refl
 
 -- what the tables have for a result
 pub from_tables : {S H : Type 0} (entries : List Entry) (table : Table S H) (r : Record) → IsTable entries table
     →
-    (((((((option_map_or (numbers_at nat_eq table.guids) r.guid []
+    ((((((((option_map_or (numbers_at nat_eq table.guids) r.guid []
     ++ option_map_or (λ text. found_within table.snippets (packed text) (keys_beside r)) r.snippet [])
     ++ flat_map (numbers_at is_pair table.pairs.full) r.full)
     ++ flat_map (numbers_at is_pair table.pairs.partial) r.partial)
     ++ flat_map (numbers_at (pointwise bytes_eq) table.texts.messages) (message_keys r))
     ++ option_map_or (numbers_at bytes_eq table.texts.uris) r.place.uri []) ++ numbers_at bytes_eq table.texts.rules r.rule_id)
-    ++ numbers_at bytes_eq table.texts.tools r.tool) ++ table.others.items ≡ candidates entries r
+    ++ numbers_at bytes_eq table.texts.tools r.tool) ++ flat_map (numbers_at nat_eq table.limited) r.admitted) ++ table.others.items ≡ candidates entries r
 from_tables entries table r is =
     nested (option_map_or (numbers_at nat_eq table.guids) r.guid [])
     (option_map_or (λ text. found_within table.snippets (packed text) (keys_beside r)) r.snippet [])
@@ -76,7 +78,7 @@ from_tables entries table r is =
     (flat_map (numbers_at is_pair table.pairs.partial) r.partial)
     (flat_map (numbers_at (pointwise bytes_eq) table.texts.messages) (message_keys r))
     (option_map_or (numbers_at bytes_eq table.texts.uris) r.place.uri []) (numbers_at bytes_eq table.texts.rules r.rule_id)
-    (numbers_at bytes_eq table.texts.tools r.tool) table.others.items
+    (numbers_at bytes_eq table.texts.tools r.tool) (flat_map (numbers_at nat_eq table.limited) r.admitted) table.others.items
     ∙ rw (
       there_same _ _ r.guid is.guids,
       there_same _ _ r.snippet beside,
@@ -86,6 +88,7 @@ from_tables entries table r is =
       there_same _ _ r.place.uri is.texts.uris,
       is.texts.rules r.rule_id,
       is.texts.tools r.tool,
+      flat_same _ _ r.admitted is.limited,
       is.rest,
     ) refl
   where
@@ -102,7 +105,8 @@ is_asked e r =
     || (list_any (λ pair. asks_for_pair Partial pair e) r.partial
     || (list_any (λ key. asks_for_message key e) (message_keys r)
     || (option_map_or (λ uri. asks_for_text Uri uri e) r.place.uri false
-    || (asks_for_text RuleId r.rule_id e || (asks_for_text Tool r.tool e || asks_for_none e)))))))
+    || (asks_for_text RuleId r.rule_id e || (asks_for_text Tool r.tool e
+    || (list_any (λ number. asks_for_number number e) r.admitted || asks_for_none e))))))))
 
 has_flat : {K : Type 0} (n : ℕ) (under : K → List ℕ) (test : K → Bool) (ks : List K) → ((k : K) → has n (under k) ≡ test k)
     → has n (flat_map under ks) ≡ list_any test ks
@@ -127,6 +131,7 @@ has_candidates es r n e is =
       list_any-append,
       list_any-append,
       list_any-append,
+      list_any-append,
     )
     (rw (
       has_there n (λ guid. numbers_from (asks_for_guid guid) 0 es) (λ guid. asks_for_guid guid e) r.guid (λ guid. at (asks_for_guid guid)),
@@ -143,6 +148,8 @@ has_candidates es r n e is =
           (λ uri. at (asks_for_text Uri uri)),
       at (asks_for_text RuleId r.rule_id),
       at (asks_for_text Tool r.tool),
+      has_flat n (λ number. numbers_from (asks_for_number number) 0 es) (λ number. asks_for_number number e) r.admitted
+          (λ number. at (asks_for_number number)),
       at asks_for_none,
     ) refl)
 
@@ -292,14 +299,14 @@ module _ (r : Record) where
   }
 
 -- a condition that one of these satisfies
-module _ (g s f p m u ru t o : Bool) where
+module _ (g s f p m u ru t l o : Bool) where
   abbrev one_of : Bool
-  one_of = g || (s || (f || (p || (m || (u || (ru || (t || o)))))))
+  one_of = g || (s || (f || (p || (m || (u || (ru || (t || (l || o))))))))
 
   in_snippet : s ≡ true → one_of ≡ true
   in_snippet is = or_right g _ (or_left s _ is)
 
-  behind_snippet : (f || (p || (m || (u || (ru || (t || o)))))) ≡ true → one_of ≡ true
+  behind_snippet : (f || (p || (m || (u || (ru || (t || (l || o))))))) ≡ true → one_of ≡ true
   behind_snippet is = or_right g _ (or_right s _ is)
 
   in_full : f ≡ true → one_of ≡ true
@@ -311,7 +318,7 @@ module _ (g s f p m u ru t o : Bool) where
   in_message : m ≡ true → one_of ≡ true
   in_message is = behind_snippet (or_right f _ (or_right p _ (or_left m _ is)))
 
-  behind_message : (u || (ru || (t || o))) ≡ true → one_of ≡ true
+  behind_message : (u || (ru || (t || (l || o)))) ≡ true → one_of ≡ true
   behind_message is = behind_snippet (or_right f _ (or_right p _ (or_right m _ is)))
 
   in_uri : u ≡ true → one_of ≡ true
@@ -323,8 +330,11 @@ module _ (g s f p m u ru t o : Bool) where
   in_tool : t ≡ true → one_of ≡ true
   in_tool is = behind_message (or_right u _ (or_right ru _ (or_left t _ is)))
 
+  in_limited : l ≡ true → one_of ≡ true
+  in_limited is = behind_message (or_right u _ (or_right ru _ (or_right t _ (or_left l _ is))))
+
   in_none : o ≡ true → one_of ≡ true
-  in_none is = behind_message (or_right u _ (or_right ru _ (or_right t _ is)))
+  in_none is = behind_message (or_right u _ (or_right ru _ (or_right t _ (or_right l _ is))))
 
 -- the entry names exactly these
 record Names (cs : List Condition) (g : Option ℕ) (sn : Option (List ℕ)) (f p : List (List ℕ × List ℕ)) (m u ru px t i : Option (List ℕ))
@@ -343,7 +353,7 @@ record Names (cs : List Condition) (g : Option ℕ) (sn : Option (List ℕ)) (f 
 
 -- an entry that is filed under a snippet and a key is found with the snippet and these keys
 its_snippet : (e : Entry) (wanted : List ℕ) (key : List (List ℕ)) (keys : List (List (List ℕ))) (found : Option (List ℕ))
-    → snippet_key e.conditions ≡ Some (packed wanted) → key_beside e.conditions ≡ key → is_snippet wanted found ≡ true
+    → filed e (snippet_key e.conditions) ≡ Some (packed wanted) → key_beside e.conditions ≡ key → is_snippet wanted found ≡ true
     → list_any (λ k. pointwise bytes_eq key k) keys ≡ true
     → option_map_or (λ text. list_any (λ k. asks_for_snippet (packed text) k e) keys) found false ≡ true
 its_snippet e wanted key keys None filed beside s is = absurd (false≢true s)
@@ -375,62 +385,65 @@ module _ (e : Entry) (r : Record) (begun : Bool) where
   abbrev by_tool : Bool
   by_tool = asks_for_text Tool r.tool e
 
-  -- an entry whose prefix is found if the URI begins with it is filed under a value of the result
-  is_filed : (g : Option ℕ) (sn : Option (List ℕ)) (f p : List (List ℕ × List ℕ)) (m u ru px t i : Option (List ℕ)) (ws : List (List ℕ))
+  abbrev by_number : Bool
+  by_number = list_any (λ number. asks_for_number number e) r.admitted
+
+  -- an entry without `max`, whose prefix is found if the URI begins with it, is filed under a value of the result
+  is_filed : e.limit ≡ None → (g : Option ℕ) (sn : Option (List ℕ)) (f p : List (List ℕ × List ℕ)) (m u ru px t i : Option (List ℕ)) (ws : List (List ℕ))
       → Names e.conditions g sn f p m u ru px t i ws → Parts g sn f p m u ru px t i ws r
-      → ((prefix : List ℕ) → prefix_key e.conditions ≡ Some prefix → begins prefix r.place.uri ≡ true → begun ≡ true)
+      → ((prefix : List ℕ) → filed e (prefix_key e.conditions) ≡ Some prefix → begins prefix r.place.uri ≡ true → begun ≡ true)
       → (is_asked e r || begun) ≡ true
-  is_filed (Some g) sn f p m u ru px t i ws n parts found =
-      or_left (is_asked e r) begun (or_left by_guid _ (rw (n.guid) (its_guid g r.guid parts.guid)))
-  is_filed None (Some sn) f p m u ru px t i ws n parts found =
+  is_filed free (Some g) sn f p m u ru px t i ws n parts found =
+      or_left (is_asked e r) begun (or_left by_guid _ (rw (free, n.guid) (its_guid g r.guid parts.guid)))
+  is_filed free None (Some sn) f p m u ru px t i ws n parts found =
       or_left (is_asked e r) begun
-      (in_snippet by_guid by_snippet by_full by_partial by_message by_uri by_rule by_tool (asks_for_none e)
+      (in_snippet by_guid by_snippet by_full by_partial by_message by_uri by_rule by_tool by_number (asks_for_none e)
       (its_snippet e sn
       (option_map_or (key_of_pair u) (if is_empty f then slice_get p 0 else slice_get f 0) (key_of u (if is_some m then m else i) ws))
-      (keys_beside r) r.snippet (rw (n.guid, n.snippet) refl) (rw (n.full, n.partial, n.uri, n.message, n.id, n.args) refl) parts.snippet
+      (keys_beside r) r.snippet (rw (free, n.guid, n.snippet) refl) (rw (n.full, n.partial, n.uri, n.message, n.id, n.args) refl) parts.snippet
       (in_keys_beside r f p u m i ws parts.full parts.partial parts.uri parts.message parts.id parts.args)))
-  is_filed None None (q ∷ f) p m u ru px t i ws n parts found =
+  is_filed free None None (q ∷ f) p m u ru px t i ws n parts found =
       or_left (is_asked e r) begun
-      (in_full by_guid by_snippet by_full by_partial by_message by_uri by_rule by_tool (asks_for_none e)
-      (rw (n.guid, n.snippet, n.full) (its_pair q r.full (and_parts (list_any (λ o. is_pair o q) r.full) (are_among f r.full) parts.full).0)))
-  is_filed None None [] (q ∷ p) m u ru px t i ws n parts found =
+      (in_full by_guid by_snippet by_full by_partial by_message by_uri by_rule by_tool by_number (asks_for_none e)
+      (rw (free, n.guid, n.snippet, n.full) (its_pair q r.full (and_parts (list_any (λ o. is_pair o q) r.full) (are_among f r.full) parts.full).0)))
+  is_filed free None None [] (q ∷ p) m u ru px t i ws n parts found =
       or_left (is_asked e r) begun
-      (in_partial by_guid by_snippet by_full by_partial by_message by_uri by_rule by_tool (asks_for_none e)
-      (rw (n.guid, n.snippet, n.full, n.partial)
+      (in_partial by_guid by_snippet by_full by_partial by_message by_uri by_rule by_tool by_number (asks_for_none e)
+      (rw (free, n.guid, n.snippet, n.full, n.partial)
       (its_pair q r.partial (and_parts (list_any (λ o. is_pair o q) r.partial) (are_among p r.partial) parts.partial).0)))
-  is_filed None None [] [] (Some m) u ru px t i ws n parts found =
+  is_filed free None None [] [] (Some m) u ru px t i ws n parts found =
       or_left (is_asked e r) begun
-      (in_message by_guid by_snippet by_full by_partial by_message by_uri by_rule by_tool (asks_for_none e)
-      (rw (n.guid, n.snippet, n.full, n.partial, n.message, n.uri, n.args)
+      (in_message by_guid by_snippet by_full by_partial by_message by_uri by_rule by_tool by_number (asks_for_none e)
+      (rw (free, n.guid, n.snippet, n.full, n.partial, n.message, n.uri, n.args)
       (in_message_keys r u (Some m) i ws parts.uri parts.message parts.id parts.args refl)))
-  is_filed None None [] [] None u ru px t (Some i) ws n parts found =
+  is_filed free None None [] [] None u ru px t (Some i) ws n parts found =
       or_left (is_asked e r) begun
-      (in_message by_guid by_snippet by_full by_partial by_message by_uri by_rule by_tool (asks_for_none e)
-      (rw (n.guid, n.snippet, n.full, n.partial, n.message, n.uri, n.id, n.args)
+      (in_message by_guid by_snippet by_full by_partial by_message by_uri by_rule by_tool by_number (asks_for_none e)
+      (rw (free, n.guid, n.snippet, n.full, n.partial, n.message, n.uri, n.id, n.args)
       (in_message_keys r u None (Some i) ws parts.uri parts.message parts.id parts.args refl)))
-  is_filed None None [] [] None u ru px t None (w ∷ ws) n parts found =
+  is_filed free None None [] [] None u ru px t None (w ∷ ws) n parts found =
       or_left (is_asked e r) begun
-      (in_message by_guid by_snippet by_full by_partial by_message by_uri by_rule by_tool (asks_for_none e)
-      (rw (n.guid, n.snippet, n.full, n.partial, n.message, n.uri, n.id, n.args)
+      (in_message by_guid by_snippet by_full by_partial by_message by_uri by_rule by_tool by_number (asks_for_none e)
+      (rw (free, n.guid, n.snippet, n.full, n.partial, n.message, n.uri, n.id, n.args)
       (in_message_keys r u None None (w ∷ ws) parts.uri parts.message parts.id parts.args refl)))
-  is_filed None None [] [] None (Some u) ru px t None [] n parts found =
+  is_filed free None None [] [] None (Some u) ru px t None [] n parts found =
       or_left (is_asked e r) begun
-      (in_uri by_guid by_snippet by_full by_partial by_message by_uri by_rule by_tool (asks_for_none e)
-      (rw (n.guid, n.snippet, n.full, n.partial, n.message, n.uri, n.id, n.args) (its_text u r.place.uri parts.uri)))
-  is_filed None None [] [] None None (Some ru) px t None [] n parts found =
+      (in_uri by_guid by_snippet by_full by_partial by_message by_uri by_rule by_tool by_number (asks_for_none e)
+      (rw (free, n.guid, n.snippet, n.full, n.partial, n.message, n.uri, n.id, n.args) (its_text u r.place.uri parts.uri)))
+  is_filed free None None [] [] None None (Some ru) px t None [] n parts found =
       or_left (is_asked e r) begun
-      (in_rule by_guid by_snippet by_full by_partial by_message by_uri by_rule by_tool (asks_for_none e)
-      (rw (n.guid, n.snippet, n.full, n.partial, n.message, n.uri, n.id, n.args, n.rule) parts.rule))
-  is_filed None None [] [] None None None (Some px) t None [] n parts found =
-      or_right (is_asked e r) begun (found px (rw (n.guid, n.snippet, n.full, n.partial, n.message, n.uri, n.id, n.args, n.rule, n.prefix) refl) parts.prefix)
-  is_filed None None [] [] None None None None (Some t) None [] n parts found =
+      (in_rule by_guid by_snippet by_full by_partial by_message by_uri by_rule by_tool by_number (asks_for_none e)
+      (rw (free, n.guid, n.snippet, n.full, n.partial, n.message, n.uri, n.id, n.args, n.rule) parts.rule))
+  is_filed free None None [] [] None None None (Some px) t None [] n parts found =
+      or_right (is_asked e r) begun (found px (rw (free, n.guid, n.snippet, n.full, n.partial, n.message, n.uri, n.id, n.args, n.rule, n.prefix) refl) parts.prefix)
+  is_filed free None None [] [] None None None None (Some t) None [] n parts found =
       or_left (is_asked e r) begun
-      (in_tool by_guid by_snippet by_full by_partial by_message by_uri by_rule by_tool (asks_for_none e)
-      (rw (n.guid, n.snippet, n.full, n.partial, n.message, n.uri, n.id, n.args, n.rule, n.prefix, n.tool) parts.tool))
-  is_filed None None [] [] None None None None None None [] n parts found =
+      (in_tool by_guid by_snippet by_full by_partial by_message by_uri by_rule by_tool by_number (asks_for_none e)
+      (rw (free, n.guid, n.snippet, n.full, n.partial, n.message, n.uri, n.id, n.args, n.rule, n.prefix, n.tool) parts.tool))
+  is_filed free None None [] [] None None None None None None [] n parts found =
       or_left (is_asked e r) begun
-      (in_none by_guid by_snippet by_full by_partial by_message by_uri by_rule by_tool (asks_for_none e)
-      (rw (n.guid, n.snippet, n.full, n.partial, n.message, n.uri, n.id, n.args, n.rule, n.prefix, n.tool) refl))
+      (in_none by_guid by_snippet by_full by_partial by_message by_uri by_rule by_tool by_number (asks_for_none e)
+      (rw (free, n.guid, n.snippet, n.full, n.partial, n.message, n.uri, n.id, n.args, n.rule, n.prefix, n.tool) refl))
 
 -- all entries that match a result are among the candidates and those whose prefix is found
 pub among : {S H : Type 0} (today : Option ℕ) (r : Record) (es : List Entry) (table : PrefixTable S H) → IsPrefixTable es table
@@ -439,9 +452,9 @@ pub among : {S H : Type 0} (today : Option ℕ) (r : Record) (es : List Entry) (
 among today r es table is n e at match =
     let beginning : List ℕ = option_map_or (found_for table) r.place.uri [] in
     let cs : List Condition = e.conditions in
-    let begun : (prefix : List ℕ) → prefix_key cs ≡ Some prefix → begins prefix r.place.uri ≡ true
+    let begun : (prefix : List ℕ) → filed e (prefix_key cs) ≡ Some prefix → begins prefix r.place.uri ≡ true
     → has n beginning ≡ true = λ prefix key begins. found_begun es table n e prefix r.place.uri is at key begins in
-    let met : is_met today e r ≡ true = (and_parts (not (is_used_up e.limit r)) (is_met today e r) match).1 in
+    let met : is_met today e r ≡ true = (and_parts (is_admitted e.limit r) (is_met today e r) match).1 in
     let all : hold cs r ≡ true = (and_parts (not (is_expired today e)) (hold cs r) met).1 in
     let names : Names cs (guid_in cs) (text_in kinds.Snippet cs) (pairs_in kinds.Fingerprints cs) (pairs_in kinds.PartialFingerprints cs) (text_in kinds.Message cs)
     (text_in kinds.Uri cs) (text_in kinds.RuleId cs) (text_in kinds.UriPrefix cs) (text_in kinds.Tool cs) (text_in kinds.MessageId cs)
@@ -462,6 +475,30 @@ among today r es table is n e at match =
     } in
     list_any-append (λ m. nat_eq m n) (candidates es r) beginning
     ∙ ap (λ b. b || has n beginning) (has_candidates es r n e at)
-    ∙ is_filed e r (has n beginning) (guid_in cs) (text_in kinds.Snippet cs) (pairs_in kinds.Fingerprints cs) (pairs_in kinds.PartialFingerprints cs)
+    ∙ by_limit e.limit refl (and_parts (is_admitted e.limit r) (is_met today e r) match).0
+    (λ free. is_filed e r (has n beginning) free (guid_in cs) (text_in kinds.Snippet cs) (pairs_in kinds.Fingerprints cs) (pairs_in kinds.PartialFingerprints cs)
     (text_in kinds.Message cs) (text_in kinds.Uri cs) (text_in kinds.RuleId cs) (text_in kinds.UriPrefix cs) (text_in kinds.Tool cs)
-    (text_in kinds.MessageId cs) (args_in cs) names (parts_of r cs all) begun
+    (text_in kinds.MessageId cs) (args_in cs) names (parts_of r cs all) begun)
+  where
+    other_way : (m k : ℕ) → nat_eq m k ≡ true → nat_eq k m ≡ true
+    other_way m k same = grind (arith, nat_tests)
+
+    turned : (numbers : List ℕ) (number : ℕ) → list_any (λ m. nat_eq m number) numbers ≡ true → list_any (λ m. nat_eq number m) numbers ≡ true
+    turned [] number is = is
+    turned (m ∷ ms) number is =
+        elim (nat_eq m number) as (λ b. nat_eq m number ≡ b → (b || list_any (λ k. nat_eq k number) ms) ≡ true
+        → (nat_eq number m || list_any (λ k. nat_eq number k) ms) ≡ true) [
+          | true ↦ λ same _. or_left (nat_eq number m) _ (other_way m number same)
+          | false ↦ λ _ rest. or_right (nat_eq number m) _ (turned ms number rest)
+        ] refl is
+
+    -- an entry with `max` has a number that the result has
+    by_limit : (limit : Option Limit) → e.limit ≡ limit → is_admitted limit r ≡ true
+        → (e.limit ≡ None → (is_asked e r || has n (option_map_or (found_for table) r.place.uri [])) ≡ true)
+        → (is_asked e r || has n (option_map_or (found_for table) r.place.uri [])) ≡ true
+    by_limit None is admits otherwise = otherwise is
+    by_limit (Some limit) is admits otherwise =
+        let begun : Bool = has n (option_map_or (found_for table) r.place.uri []) in
+        or_left (is_asked e r) begun
+        (in_limited (by_guid e r begun) (by_snippet e r begun) (by_full e r begun) (by_partial e r begun) (by_message e r begun) (by_uri e r begun)
+        (by_rule e r begun) (by_tool e r begun) (by_number e r begun) (asks_for_none e) (rw is (turned r.admitted limit.number admits)))

@@ -75,3 +75,9 @@ pub under_step : {K : Type 0} (under : K → List ℕ) (old new : List ℕ) (ks 
 under_step under old new ks i k within is added =
     let split : drop i ks ≡ k ∷ drop (i + 1) ks = drop_more ks i k within ∙ ap (λ m. m ∷ drop (i + 1) ks) (sym is) in
     rw (added, split) (append_assoc old (under k) (flat_map under (drop (i + 1) ks)))
+
+-- a number within a list doesn't depend on what is beyond it
+pub get_or_any : (ns : List ℕ) (i a b : ℕ) → i < length ns → get_or ns i a ≡ get_or ns i b
+get_or_any [] i a b within = absurd (omega (arith, within))
+get_or_any (n ∷ ns) zero a b within = refl
+get_or_any (n ∷ ns) (suc i) a b within = get_or_any ns i a b (omega (arith, within))

@@ -2,7 +2,8 @@
 //! it. Each entry is filed under its most specific condition: its GUID, otherwise its snippet together with the next one
 //! that it names of fingerprint, message and URI, otherwise its first fingerprint, otherwise its first partial fingerprint,
 //! otherwise what it names of a message, together with its URI if it names one, otherwise its URI, otherwise its rule id,
-//! otherwise its URI prefix, otherwise its tool. Entries under a prefix are in a separate table.
+//! otherwise its URI prefix, otherwise its tool. Entries under a prefix are in a separate table. An entry with `max` is filed
+//! under its number alone: the record of a result that it admits has that number.
 ghost use Rattle.std.specs.Prelude.{◌≡◌, ◌≤◌, ◌++◌, [], List, ℕ, length, nat_eq, bytes_eq, IfOk, OnOk};
 ghost use Rattle.std.specs.Cmp.Lexicographic.{pointwise};
 ghost use Rattle.std.specs.List.{flat_map};
@@ -76,6 +77,8 @@ pub struct Table<S: BuildHasher + Copy> {
     snippets: IndexMap<Text, Keyed<S>, S>,
     pairs: PairTables<S>,
     texts: TextTables<S>,
+    /// The entries with `max`, by their numbers.
+    limited: IndexMap<u32, Vec<u32>, S>,
     others: Vec<u32>,
 }
 
@@ -91,11 +94,13 @@ impl<S: BuildHasher + Copy> Table<S> {
         let snippets = numbers_by_snippet(alloc, hasher, entries)?;
         let pairs = PairTables::new(alloc, hasher, entries)?;
         let texts = TextTables::new(alloc, hasher, entries)?;
+        let limited = numbers_by_number(alloc, hasher, entries)?;
         Ok(Table {
             guids,
             snippets,
             pairs,
             texts,
+            limited,
             others,
         })
     }
@@ -115,6 +120,7 @@ impl<S: BuildHasher + Copy> Table<S> {
         found.extend_from_slice(numbers_with_text(&self.texts.uris, &record.place.uri))?;
         found.extend_from_slice(numbers_for(&self.texts.rules, &record.rule_id))?;
         found.extend_from_slice(numbers_for(&self.texts.tools, &record.tool))?;
+        add_with_numbers(&mut found, &self.limited, record.admitted.as_slice())?;
         found.extend_from_slice(&self.others)?;
         Ok(found)
     }
@@ -131,6 +137,21 @@ fn add_with_pairs<S: BuildHasher + Copy>(
 {
     for pair in pairs {
         found.extend_from_slice(numbers_for(table, pair))?;
+    }
+    Ok(())
+}
+
+/// Adds the numbers of the entries with `max` that have one of these numbers.
+fn add_with_numbers<S: BuildHasher + Copy>(
+    found: &mut Vec<u32>,
+    table: &IndexMap<u32, Vec<u32>, S>,
+    numbers: &[u32],
+) -> Result<(), AllocError>
+    ensures { OnOk result (found.new.items
+        ≡ found.old.items ++ flat_map (numbers_at nat_eq table.now) numbers.now) }
+{
+    for number in numbers {
+        found.extend_from_slice(numbers_for(table, number))?;
     }
     Ok(())
 }
@@ -248,7 +269,26 @@ fn numbers_by_text<S: BuildHasher + Copy>(
     Ok(table)
 }
 
-/// The numbers of the entries that have no key, rising.
+/// For each number of an entry with `max` the numbers of the entries that have it, rising.
+fn numbers_by_number<S: BuildHasher + Copy>(
+    alloc: Global,
+    hasher: S,
+    entries: &[Entry],
+) -> Result<IndexMap<u32, Vec<u32>, S>, AllocError>
+    requires { length entries.now ≤ most_entries }
+    ensures { IfOk result (λ table. (q : ℕ)
+        → numbers_at nat_eq table q ≡ numbers_from (said.asks_for_number q) 0 entries.now) }
+{
+    let mut table: IndexMap<u32, Vec<u32>, S> = IndexMap::with_hasher(alloc, hasher);
+    for (number, entry) in entries.iter().enumerate() {
+        if let Some(limit) = entry.limit {
+            add_number(alloc, &mut table, limit.number, number as u32)?;
+        }
+    }
+    Ok(table)
+}
+
+/// The numbers of the entries that have no `max` and no key, rising.
 fn numbers_of_others(alloc: Global, entries: &[Entry]) -> Result<Vec<u32>, AllocError>
     requires { length entries.now ≤ most_entries }
     ensures { IfOk result (λ numbers. numbers.items

@@ -1,8 +1,5 @@
 -- A path, and the `./` that it begins with.
-use Rattle.std.proofs.Common.{◌≡◌, ◌+◌, ℕ, Bool, true, false, List, ◌∷◌, ◌++◌, length, drop, nat_eq, chars, encode_utf8, IsUtf8, Option, Some, None, MatchOption, sym, subst, ap, refl, ◌∙◌, if◌then◌else◌}
-use Rattle.std.specs.Prelude.{option_map}
-use Rattle.std.specs.Borrow.{Bor}
-use Rattle.std.specs.List.{starts_with}
+use Rattle.std.proofs.Common.{◌≡◌, ℕ, Bool, true, false, List, ◌∷◌, ◌++◌, length, chars, encode_utf8, IsUtf8, sym, ap, refl, ◌∙◌, if◌then◌else◌}
 use Rattle.std.proofs.StrCases.{chars_of_empty}
 use Rattle.std.proofs.lemmas.Str.{chars_past_char}
 use Rattle.sarif_findings.specs.PathOf.{begins_here, is_removed, after_here, without_here}

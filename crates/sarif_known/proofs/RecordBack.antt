@@ -1,5 +1,5 @@
 -- The record of a known result is the record that it was written from.
-use Rattle.std.proofs.Common.{◌≡◌, ◌∙◌, ◌||◌, ℕ, Bool, true, false, if◌then◌else◌, List, [], ◌∷◌, map, Option, Some, None, option_map, refl, sym}
+use Rattle.std.proofs.Common.{◌≡◌, ◌||◌, ℕ, Bool, true, false, if◌then◌else◌, List, [], ◌∷◌, map, Option, Some, None, option_map, refl, sym}
 use Rattle.std.specs.Prelude.{is_some, Result, Ok, IfSome, slice_get}
 use Rattle.sarif_model.specs.declared.fault.Fault.{Fault}
 use Rattle.sarif_model.specs.declared.kinds.Kind.{Kind}
@@ -104,7 +104,7 @@ record_back options bases n r readable there =
           held = r.held;
           region = if_placed r.place r.region;
           snippet = if_placed r.place r.snippet;
-          spent = [];
+          admitted = [];
         }))
         (Ok r)
     whole_back =
@@ -123,5 +123,5 @@ record_back options bases n r readable there =
           held = r.held;
           region = readable.region_placed i;
           snippet = readable.snippet_placed i;
-          spent = sym readable.unspent i;
+          admitted = sym readable.unadmitted i;
         })

@@ -29,7 +29,7 @@ pub record IsRegion (region : Region) : Type 0 where
 
 -- the facts about each record that was read with these options: its GUID has 128 bits; it has a level only if its kind
 -- is fail; the names of its fingerprints strictly rise, and none is ignored; its region and its snippet are as they are
--- read, and it has them only if regions are read, and with a URI or a base; no entry is used up before it
+-- read, and it has them only if regions are read, and with a URI or a base; no entry admits it
 pub record IsReadable (options : RecordOptions) (r : Record) : Type 0 where
   pub guid : IfSome r.guid (λ guid. guid < 2 ^ 128)
   pub level : is_fail r.kind ≡ false → r.level ≡ NoLevel
@@ -43,7 +43,7 @@ pub record IsReadable (options : RecordOptions) (r : Record) : Type 0 where
   pub snippet_placed : if_placed r.place r.snippet ≡ r.snippet
   pub no_region : options.regions ≡ false → r.region ≡ None
   pub no_snippet : options.regions ≡ false → r.snippet ≡ None
-  pub unspent : r.spent ≡ []
+  pub unadmitted : r.admitted ≡ []
 
 -- the results of a run of this tool can be read again with these options
 pub record IsOfTool (options : RecordOptions) (tool : List ℕ) (r : Record) : Type 0 where
@@ -77,7 +77,7 @@ without_own r = record {
   held = [];
   region = r.region;
   snippet = r.snippet;
-  spent = r.spent;
+  admitted = r.admitted;
 }
 
 -- the records are equal except for those statuses

@@ -1,5 +1,5 @@
 -- Records of runs that are read without regions: those of the same runs with regions, without these.
-use Rattle.std.proofs.Common.{◌≡◌, ◌+◌, ◌&&◌, ℕ, Bool, true, false, List, [], ◌∷◌, map, length, Option, Some, None, Result, Ok, Err, refl, sym, ap, ap₂, ◌∙◌, if◌then◌else◌}
+use Rattle.std.proofs.Common.{◌≡◌, ◌+◌, ◌&&◌, ℕ, Bool, true, false, List, [], ◌∷◌, map, length, Option, Some, None, Result, Ok, Err, refl, ap, ap₂, ◌∙◌, if◌then◌else◌}
 use Rattle.std.specs.List.{range_with_len}
 use Rattle.serde_json.specs.Data.{Data}
 use Rattle.sarif_model.specs.declared.fault.Fault.{Fault}
@@ -81,7 +81,7 @@ by_bare ignored head tool parts =
       held = parts.held;
       region = none_placed place i;
       snippet = none_placed place i;
-      spent = [];
+      admitted = [];
     }))))
 
 in_bare : (options : RecordOptions) (head : RunHead) (tool : List ℕ) (d : Data)

@@ -1,5 +1,5 @@
 -- Exactly the results that don't stay out become known.
-use Rattle.std.proofs.Common.{◌≡◌, ◌∙◌, ◌⊎◌, inl, inr, Bool, true, false, not, ◌&&◌, ◌||◌, List, ◌∷◌, refl, sym, ap, true≢false}
+use Rattle.std.proofs.Common.{◌≡◌, ◌∙◌, ◌⊎◌, inl, inr, Bool, true, false, not, ◌&&◌, ◌||◌, List, ◌∷◌, refl, ap}
 use Rattle.sarif_model.specs.declared.record.Record.{Record}
 use Rattle.sarif_model.specs.declared.kinds.State.{State}
 use Rattle.sarif_model.specs.declared.kinds.State.TheVariants.{New, Unchanged, Updated, Absent}
@@ -7,7 +7,7 @@ use Rattle.sarif_options.specs.declared.policy.Policy.{Policy}
 use Rattle.sarif_entries.specs.File.{File}
 use Rattle.sarif_suppress.specs.Suppressing.{is_suppressed, lasting}
 use Rattle.sarif_accept.specs.Adding.{may_hit}
-use Rattle.sarif_known_laws.specs.JustKnown.{IsSuppressedForNow, IsNewAndStops, StaysOut}
+use Rattle.sarif_known_laws.specs.JustKnown.{StaysOut}
 use Rattle.sarif_known.specs.Selected.{is_left_out, is_new, keep_unless, known_of, may_be_new}
 use Rattle.sarif_known.specs.declared.standing.Standing.{Standing}
 

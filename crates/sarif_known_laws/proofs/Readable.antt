@@ -156,7 +156,7 @@ by_sound options d head tool parts r ordered read is =
         snippet_placed = placed_twice place.0 parts.snippet;
         no_region = λ none. ap (if_placed place.0) (read.region ∙ ap (λ b. (own_region b d).region) none) ∙ none_placed place.0;
         no_snippet = λ none. ap (if_placed place.0) (read.snippet ∙ ap (λ b. (own_region b d).snippet) none) ∙ none_placed place.0;
-        unspent = refl;
+        unadmitted = refl;
       };
     })
 

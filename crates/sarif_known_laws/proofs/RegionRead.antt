@@ -1,5 +1,5 @@
 -- The region of a result that was read and its snippet can be read again.
-use Rattle.std.proofs.Common.{◌≡◌, ℕ, ◌<◌, ◌^◌, ◌||◌, ◌&&◌, Bool, true, false, List, Option, Some, None, option_map, option_and_then, is_some, codes, refl, arith, if◌then◌else◌}
+use Rattle.std.proofs.Common.{◌≡◌, ℕ, ◌^◌, ◌||◌, ◌&&◌, Bool, true, false, List, Option, Some, None, option_map, option_and_then, is_some, codes, refl, arith, if◌then◌else◌}
 use Rattle.std.specs.Prelude.{IfSome, nat_lt}
 use Rattle.std.specs.List.{list_all}
 use Rattle.std.specs.Option.{option_or}

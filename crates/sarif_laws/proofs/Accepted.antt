@@ -23,14 +23,14 @@ use Rattle.sarif_model.specs.declared.kinds.State.TheVariants.{Unchanged, Update
 use Rattle.sarif_runs.specs.Judging.{records_of, run_values}
 use Rattle.sarif_runs.specs.Record.{record_of}
 use Rattle.sarif_entries.specs.Numbering.{renumbered}
-use Rattle.sarif_suppress.specs.Limited.{all_spent, with_spent}
+use Rattle.sarif_suppress.specs.Limited.{all_admitted, with_admitted}
 use Rattle.sarif_inputs.specs.Faults.{faults_of}
 use Rattle.sarif_inputs.specs.Inputs.{Inputs, baseline_runs, input_runs, reading_checks, record_options}
 use Rattle.sarif_log.specs.LogBy.{listing_of, states_of, taken_of}
 use Rattle.sarif_log.specs.MergedRuns.{written}
 use Rattle.sarif_merge.specs.Life.{merge_in}
 use Rattle.sarif_merge.specs.MergedLog.{current_of, file_given, limited_of, runs_written, written_inputs}
-use Rattle.sarif_merge.specs.OwnResult.{IsResult, baseline_of, number_among_all, partner_at, run_at, spent_at, written_by, written_run}
+use Rattle.sarif_merge.specs.OwnResult.{IsResult, baseline_of, number_among_all, partner_at, run_at, admitted_at, written_by, written_run}
 use Rattle.sarif_merge.proofs.OwnResult.{own_result, results_same, runs_same}
 use Rattle.sarif_upkeep.specs.Renewed.{added_in, how_of, renewal_faults}
 use Rattle.sarif_accept.specs.Adding.{may_hit}
@@ -66,7 +66,7 @@ current_state Three r None = refl
 current_state Three r (Some other) = one_of_two (is_unchanged r other && has_evidence (seen r) (seen other))
 
 -- what is read from a result doesn't depend on entries
-pub still_read : (d : Data) (r : Record) (numbers : List ℕ) → IsRead d r → IsRead d (with_spent r numbers)
+pub still_read : (d : Data) (r : Record) (numbers : List ℕ) → IsRead d r → IsRead d (with_admitted r numbers)
 still_read d r numbers read = record { guid = read.guid; held = read.held }
 
 pub dated_until : (today until : Option ℕ) → IsUntil today until → IsDated today until
@@ -165,7 +165,7 @@ module _ (inputs : Inputs) (policy : Policy) (marks : Marks) (renewal : Renewal)
   -- the same result in the next merge is written as if entries had the numbers that they had
   pub later_result : (k seq : ℕ) (r : Record) → IsResult inputs k seq → record_of (record_options (reading_checks inputs)) (run_at inputs k) seq ≡ Ok r
       → result_at (written_run (with_file inputs text) k) seq
-      ≡ written (listing_of (later_file inputs policy marks renewal)) (with_spent r (spent_at inputs (number_among_all inputs k seq)))
+      ≡ written (listing_of (later_file inputs policy marks renewal)) (with_admitted r (admitted_at inputs (number_among_all inputs k seq)))
       (state_in inputs.checks.matching r (partner_at inputs (number_among_all inputs k seq))) (result_at (run_at inputs k) seq)
   later_result k seq r there read =
       let own = own_result (with_file inputs text) k seq (faultless_later inputs policy marks renewal text none small dated is) there in
@@ -175,15 +175,15 @@ module _ (inputs : Inputs) (policy : Policy) (marks : Marks) (renewal : Renewal)
       let file = file_given inputs in
       let later = later_file inputs policy marks renewal in
       let state = state_in inputs.checks.matching r (partner_at inputs place) in
-      let before = spent_at inputs place in
-      let after = slice_index_or (all_spent (renumbered later) rs) place [] in
+      let before = admitted_at inputs place in
+      let after = slice_index_or (all_admitted (renumbered later) rs) place [] in
       let at = at_place inputs k seq r none there read in
       own.2
-      ∙ ap (λ x. written (listing_of (file_given (with_file inputs text))) (with_spent x (spent_at (with_file inputs text) place))
+      ∙ ap (λ x. written (listing_of (file_given (with_file inputs text))) (with_admitted x (admitted_at (with_file inputs text) place))
       (state_in inputs.checks.matching x (partner_at inputs place)) d) (one_record own.0 r (sym own.1 ∙ read))
-      ∙ ap (λ f. written (listing_of f) (with_spent r (slice_index_or (all_spent f rs) place [])) state d)
+      ∙ ap (λ f. written (listing_of f) (with_admitted r (slice_index_or (all_admitted f rs) place [])) state d)
       (later_is inputs policy marks renewal text none small dated is)
-      ∙ alike_result (listing_of (renumbered later)) (listing_of later) (with_spent r after) (with_spent r before) state d
+      ∙ alike_result (listing_of (renumbered later)) (listing_of later) (with_admitted r after) (with_admitted r before) state d
       (record {
         level = refl;
         listed = listed_later inputs.suppressions text inputs.today file (how_of (merge_in inputs policy) renewal) (limited_of inputs)
@@ -207,7 +207,7 @@ module _ (inputs : Inputs) (policy : Policy) (renewal : Renewal) (text : List �
       let rs = limited_of inputs in
       let states = states_of inputs.checks.matching (current_of inputs) (baseline_of inputs) in
       let place = number_among_all inputs k seq in
-      let before : Record = with_spent r (spent_at inputs place) in
+      let before : Record = with_admitted r (admitted_at inputs place) in
       let state = state_in inputs.checks.matching r (partner_at inputs place) in
       let at = has_place inputs k seq r none there own.1 in
       let found : slice_get rs place ≡ Some before = found_at file (current_of inputs) place r (at_place inputs k seq r none there own.1) in
@@ -221,7 +221,7 @@ module _ (inputs : Inputs) (policy : Policy) (renewal : Renewal) (text : List �
       (still_suppressed how (may_hit policy) file rs states before place in_records record_is)
       (λ given. list_begins how (may_hit policy) file rs states before place given in_records record_is)
       (current_state inputs.checks.matching r (partner_at inputs place)) (result_at (run_at inputs k) seq)
-      (still_read (result_at (run_at inputs k) seq) r (spent_at inputs place)
+      (still_read (result_at (run_at inputs k) seq) r (admitted_at inputs place)
       (record_read (record_options (reading_checks inputs)) (run_at inputs k) seq r own.1)) in
       subst (λ b. IsLeft policy b (result_at (written_run (with_file inputs text) k) seq)) (sym own.2)
       (subst (IsLeft policy (written_by inputs r place (result_at (run_at inputs k) seq)))

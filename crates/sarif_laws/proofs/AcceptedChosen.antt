@@ -13,14 +13,14 @@ use Rattle.sarif_runs.specs.Judging.{run_values}
 use Rattle.sarif_runs.specs.Record.{record_of}
 use Rattle.sarif_results.specs.Drafts.{IsObject}
 use Rattle.sarif_entries.specs.declared.entry.Entry.{Entry}
-use Rattle.sarif_suppress.specs.Limited.{with_spent}
+use Rattle.sarif_suppress.specs.Limited.{with_admitted}
 use Rattle.sarif_inputs.specs.Faults.{faults_of}
 use Rattle.sarif_inputs.specs.Inputs.{Inputs, input_runs, log_sources, reading_checks, record_options}
 use Rattle.sarif_log.specs.MergedRuns.{written}
 use Rattle.sarif_log.specs.LogBy.{listing_of}
 use Rattle.sarif_merge.specs.Life.{merge_in}
 use Rattle.sarif_merge.specs.MergedLog.{current_of, file_given, limited_of}
-use Rattle.sarif_merge.specs.OwnResult.{IsResult, number_among_all, partner_at, run_at, spent_at, written_by, written_run}
+use Rattle.sarif_merge.specs.OwnResult.{IsResult, number_among_all, partner_at, run_at, admitted_at, written_by, written_run}
 use Rattle.sarif_merge.proofs.OwnResult.{own_result}
 use Rattle.sarif_merge.proofs.ReadObjects.{objects_in}
 use Rattle.sarif_upkeep.specs.Renewed.{added_in, entries_added, how_of, renewal_faults}
@@ -72,7 +72,7 @@ module _ (inputs : Inputs) (policy : Policy) (marks : Marks) (renewal : Renewal)
     given = result_at (run_at inputs k) seq
 
     abbrev before : Record
-    before = with_spent r (spent_at inputs place)
+    before = with_admitted r (admitted_at inputs place)
 
     abbrev state : State
     state = state_in inputs.checks.matching r (partner_at inputs place)
@@ -104,7 +104,7 @@ module _ (inputs : Inputs) (policy : Policy) (marks : Marks) (renewal : Renewal)
         get_object (results_of (run_at inputs k)) seq there.1 (run_objects (run_values (input_runs inputs)) k in_runs (objects_in (log_sources inputs)))
 
     read : IsRead given before
-    read = still_read given r (spent_at inputs place) (record_read (record_options (reading_checks inputs)) (run_at inputs k) seq r own)
+    read = still_read given r (admitted_at inputs place) (record_read (record_options (reading_checks inputs)) (run_at inputs k) seq r own)
 
     later_is_written : later ≡ written (listing_of (later_file inputs policy marks renewal)) before state given
     later_is_written = later_result inputs policy marks renewal text none small dated is k seq r there own

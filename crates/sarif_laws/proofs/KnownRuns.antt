@@ -25,7 +25,7 @@ use Rattle.sarif_known.specs.declared.standing.Standing.{Standing}
 use Rattle.sarif_known.specs.Selected.{is_left_out, keep_unless, kept_of, known_of, unmatched_of}
 use Rattle.sarif_upkeep.specs.Known.{chosen_before, chosen_now}
 use Rattle.sarif_upkeep.proofs.Taken.{kept_of_fewer, known_fewer}
-use Rattle.sarif_suppress.specs.Limited.{with_spent}
+use Rattle.sarif_suppress.specs.Limited.{with_admitted}
 use Rattle.sarif_laws.specs.KnownAgain.{as_read}
 use Rattle.sarif_laws.proofs.Lists.{all_append}
 use Rattle.sarif_laws.proofs.OfTool.{IsSoundRun, own_records}
@@ -82,7 +82,7 @@ map_drop zero rs = refl
 map_drop (suc n) [] = refl
 map_drop (suc n) (r ∷ rs) = map_drop n rs
 
--- the records are those of the runs, apart from the entries that are used up before them
+-- the records are those of the runs, apart from the entries that admit them
 pub now_sound : (options : RecordOptions) (file : File) (policy : Policy) (adopt : Bool) (ps : List Placed) (rs : List Record) (states : List Standing)
     → map as_read rs ≡ records_of ps → faults_of_runs ps ≡ []
     → AllByRecursion (λ p. skips p.source ≡ false) ps → AllByRecursion (IsSoundRun options) ps
@@ -120,7 +120,7 @@ again_each : (options : RecordOptions) (tool : List ℕ) (rs : List Record) → 
     → AllByRecursion (λ r. IsOfTool options tool (as_read r)) rs
 again_each options tool [] all = tt
 again_each options tool (r ∷ rs) all =
-    (subst (IsOfTool options tool) (ap (with_spent r) all.0.readable.unspent) all.0, again_each options tool rs all.1)
+    (subst (IsOfTool options tool) (ap (with_admitted r) all.0.readable.unadmitted) all.0, again_each options tool rs all.1)
 
 pub all_again : (options : RecordOptions) (runs : List Chosen) → AllByRecursion (IsChosenSound options) runs → AllByRecursion (IsChosenAgain options) runs
 all_again options [] all = tt

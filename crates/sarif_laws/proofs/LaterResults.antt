@@ -20,10 +20,10 @@ use Rattle.sarif_entries.specs.File.{File, file_of}
 use Rattle.sarif_entries.specs.Given.{file_or_none}
 use Rattle.sarif_entries.specs.Matching.{is_met, matches}
 use Rattle.sarif_entries.specs.Numbering.{limit_with, numbered_from, renumbered, with_number}
-use Rattle.sarif_suppress.specs.Limited.{is_used_up_by, limited, met_by, with_spent}
+use Rattle.sarif_suppress.specs.Limited.{is_used_up_by, limited, met_by, with_admitted}
 use Rattle.sarif_suppress.specs.Suppressing.{is_suppressed, matching, statuses_suppress}
 use Rattle.sarif_suppress.specs.Written.{suppressions_of, with_object, with_objects}
-use Rattle.sarif_suppress.proofs.LimitedResults.{first_match, met_spent}
+use Rattle.sarif_suppress.proofs.LimitedResults.{first_match, met_admitted}
 use Rattle.sarif_accept.specs.Adding.{How, entry_read}
 use Rattle.sarif_accept.specs.Choosing.{entries_read, file_adding}
 use Rattle.sarif_accept.specs.Keeping.{is_kept}
@@ -116,34 +116,34 @@ module _ (given : Option (List ℕ)) (text : List ℕ) (today : Option ℕ) (fil
       ∙ sym (first_given given today file rs i n r before x old at_old at is_before)
 
   module _ (i : ℕ) (r : Record) (before after : List ℕ) (at : slice_get rs i ≡ Some r)
-      (at_old : slice_get (limited file rs) i ≡ Some (with_spent r before))
-      (at_new : slice_get (limited (renumbered later) rs) i ≡ Some (with_spent r after)) where
+      (at_old : slice_get (limited file rs) i ≡ Some (with_admitted r before))
+      (at_new : slice_get (limited (renumbered later) rs) i ≡ Some (with_admitted r after)) where
     abbrev test : Entry → Bool
     test e = fits file.today (take i rs) r e
 
-    matching_new : matching (renumbered later) (with_spent r after) ≡ filter test (numbered_from 0 later.entries)
+    matching_new : matching (renumbered later) (with_admitted r after) ≡ filter test (numbered_from 0 later.entries)
     matching_new =
-        filter_same (λ e. matches file.today e (with_spent r after)) test (numbered_from 0 later.entries)
-        (λ n e is. first_match text today (renumbered later) rs i n r (with_spent r after) e new is at at_new)
+        filter_same (λ e. matches file.today e (with_admitted r after)) test (numbered_from 0 later.entries)
+        (λ n e is. first_match text today (renumbered later) rs i n r (with_admitted r after) e new is at at_new)
 
-    matching_old : matching file (with_spent r before) ≡ filter test file.entries
+    matching_old : matching file (with_admitted r before) ≡ filter test file.entries
     matching_old =
-        filter_same (λ e. matches file.today e (with_spent r before)) test file.entries
-        (λ n e is. first_given given today file rs i n r (with_spent r before) e old is at at_old)
+        filter_same (λ e. matches file.today e (with_admitted r before)) test file.entries
+        (λ n e is. first_given given today file rs i n r (with_admitted r before) e old is at at_old)
 
     -- entries that are added have no limit
     made_same : (xs : List Record)
-        → filter (λ e. matches file.today e (with_spent r before)) (map (λ x. entry_read x how.renewal.reason how.renewal.until) xs)
+        → filter (λ e. matches file.today e (with_admitted r before)) (map (λ x. entry_read x how.renewal.reason how.renewal.until) xs)
         ≡ filter test (map (λ x. entry_read x how.renewal.reason how.renewal.until) xs)
     made_same [] = refl
     made_same (x ∷ xs) =
         let e = entry_read x how.renewal.reason how.renewal.until in
-        ap₂ (λ b l. if b then e ∷ l else l) (met_spent file.today e r before ∙ sym (and-true (is_met file.today e r))) (made_same xs)
+        ap₂ (λ b l. if b then e ∷ l else l) (met_admitted file.today e r before ∙ sym (and-true (is_met file.today e r))) (made_same xs)
 
-    matching_kept : matching later (with_spent r before) ≡ filter test later.entries
+    matching_kept : matching later (with_admitted r before) ≡ filter test later.entries
     matching_kept =
         let keep = is_kept how.renewal.prune how.heard file all in
-        let fit : Entry → Bool = λ e. matches file.today e (with_spent r before) in
+        let fit : Entry → Bool = λ e. matches file.today e (with_admitted r before) in
         let made = entries_read how added in
         filter-append fit (filter keep file.entries) made
         ∙ ap₂ (λ xs ys. xs ++ ys)
@@ -151,14 +151,14 @@ module _ (given : Option (List ℕ)) (text : List ℕ) (today : Option ℕ) (fil
         (made_same added)
         ∙ sym (filter-append test (filter keep file.entries) made)
 
-    pub suppressed_later : is_suppressed (renumbered later) (with_spent r after) ≡ is_suppressed later (with_spent r before)
+    pub suppressed_later : is_suppressed (renumbered later) (with_admitted r after) ≡ is_suppressed later (with_admitted r before)
     suppressed_later =
         ap (λ ss. statuses_suppress (r.held ++ ss))
         (ap (map (λ (e : Entry). e.status)) matching_new
         ∙ numbered_statuses test (fits_numbered file.today (take i rs) r) 0 later.entries
         ∙ sym (ap (map (λ (e : Entry). e.status)) matching_kept))
 
-    pub listed_later : (own : List Data) → suppressions_of own (renumbered later) (with_spent r after) ≡ suppressions_of own later (with_spent r before)
+    pub listed_later : (own : List Data) → suppressions_of own (renumbered later) (with_admitted r after) ≡ suppressions_of own later (with_admitted r before)
     listed_later own =
         ap (with_objects own) matching_new
         ∙ numbered_objects test (fits_numbered file.today (take i rs) r) 0 later.entries own

@@ -39,7 +39,7 @@ use Rattle.sarif_known_laws.proofs.BarePartners.{all_kept, bare_current}
 use Rattle.sarif_runs.specs.declared.run_options.RecordOptions.{RecordOptions}
 use Rattle.sarif_runs.specs.Placed.{AreReadWith}
 use Rattle.sarif_known.specs.Laws.{IsOfTool}
-use Rattle.sarif_suppress.specs.Limited.{AreUnspent, with_spent}
+use Rattle.sarif_suppress.specs.Limited.{AreUnadmitted, with_admitted}
 use Rattle.sarif_known.specs.declared.standing.Standing.{Standing}
 use Rattle.sarif_known.specs.Selected.{is_left_out, keep_unless, known_of, unmatched_of}
 use Rattle.sarif_read.specs.Reading.{log_of}
@@ -49,11 +49,11 @@ use Rattle.sarif_inputs.proofs.ReadFacts.{baseline_sides, log_sides, read_alike}
 use Rattle.sarif_inputs.proofs.SourceRuns.{data_placed}
 use Rattle.sarif_log.specs.LogBy.{listing_of, partner_in, taken_of}
 use Rattle.sarif_log.specs.MergedRuns.{absent_runs, written}
-use Rattle.sarif_log.proofs.Limits.{records_unspent}
+use Rattle.sarif_log.proofs.Limits.{records_unadmitted}
 use Rattle.sarif_log.proofs.Told.{state_told}
 use Rattle.sarif_merge.specs.Life.{merge_in}
 use Rattle.sarif_merge.specs.MergedLog.{current_of, file_given, runs_written, written_inputs}
-use Rattle.sarif_merge.specs.OwnResult.{IsResult, baseline_of, number_among_all, partner_at, run_at, spent_at, written_run}
+use Rattle.sarif_merge.specs.OwnResult.{IsResult, baseline_of, number_among_all, partner_at, run_at, admitted_at, written_run}
 use Rattle.sarif_merge.proofs.OwnResult.{faultless_runs, own_result, runs_same}
 use Rattle.sarif_merge.proofs.ReadObjects.{objects_in}
 use Rattle.sarif_upkeep.specs.Heard.{heard}
@@ -70,7 +70,7 @@ use Rattle.sarif_laws.proofs.ByTool.{IsOfOne, known_of_tool, records_among}
 use Rattle.sarif_laws.proofs.ByVersion.{matched_in, turn, turn_among, unmatched_in}
 use Rattle.sarif_laws.proofs.Counted.{hits_counted, none_fails}
 use Rattle.sarif_laws.proofs.KnownRuns.{all_again, before_sound, IsChosenAgain, IsChosenSound, now_sound}
-use Rattle.sarif_laws.proofs.Limited.{read_limited, read_unspent}
+use Rattle.sarif_laws.proofs.Limited.{read_limited, read_unadmitted}
 use Rattle.sarif_laws.proofs.Lists.{all_append, same_counts}
 use Rattle.sarif_laws.proofs.OfTool.{sources_sound}
 use Rattle.sarif_laws.proofs.Places.{has_place}
@@ -188,14 +188,14 @@ known_at regions [] i r is = let never : ⊥ = cc in absurd never
 known_at regions (x ∷ rs) zero r is = ap (λ q. Some (known_as regions q)) (same_Some x r is)
 known_at regions (x ∷ rs) (suc i) r is = known_at regions rs i r is
 
-one_unspent : (options : RecordOptions) (tool : List ℕ) (rs : List Record) → AllByRecursion (IsOfTool options tool) rs → AreUnspent rs
-one_unspent options tool [] all = tt
-one_unspent options tool (r ∷ rs) all = (all.0.readable.unspent, one_unspent options tool rs all.1)
+one_unadmitted : (options : RecordOptions) (tool : List ℕ) (rs : List Record) → AllByRecursion (IsOfTool options tool) rs → AreUnadmitted rs
+one_unadmitted options tool [] all = tt
+one_unadmitted options tool (r ∷ rs) all = (all.0.readable.unadmitted, one_unadmitted options tool rs all.1)
 
-among_unspent : (options : RecordOptions) (runs : List Chosen) → AllByRecursion (IsChosenSound options) runs → AreUnspent (records_among runs)
-among_unspent options [] all = tt
-among_unspent options (run ∷ runs) all =
-    all_append (λ r. r.spent ≡ []) run.records (records_among runs) (one_unspent options run.tool run.records all.0) (among_unspent options runs all.1)
+among_unadmitted : (options : RecordOptions) (runs : List Chosen) → AllByRecursion (IsChosenSound options) runs → AreUnadmitted (records_among runs)
+among_unadmitted options [] all = tt
+among_unadmitted options (run ∷ runs) all =
+    all_append (λ r. r.admitted ≡ []) run.records (records_among runs) (one_unadmitted options run.tool run.records all.0) (among_unadmitted options runs all.1)
 
 -- ---- objects
 
@@ -267,7 +267,7 @@ module _ (inputs : Inputs) (policy : Policy) (knowing : Knowing) (known : List �
   regions_are = ap₂ knows_regions next.matching next.once
 
   now_read : map as_read (merge_in inputs policy).records ≡ current_of inputs
-  now_read = read_limited (file_given inputs) (current_of inputs) (records_unspent (input_runs inputs))
+  now_read = read_limited (file_given inputs) (current_of inputs) (records_unadmitted (input_runs inputs))
 
   now_own : AllByRecursion IsOfOne (known_now (merge_in inputs policy) (adopts knowing))
   now_own =
@@ -294,7 +294,7 @@ module _ (inputs : Inputs) (policy : Policy) (knowing : Knowing) (known : List �
   kept = records_among (known_before (merge_in inputs policy))
 
   kept_read : map as_read kept ≡ kept
-  kept_read = read_unspent kept (among_unspent (record_options (reading_checks inputs)) (known_before (merge_in inputs policy)) before_own_options)
+  kept_read = read_unadmitted kept (among_unadmitted (record_options (reading_checks inputs)) (known_before (merge_in inputs policy)) before_own_options)
 
   all_now : map as_read (map (known_as regions) (records_among (known_now (merge_in inputs policy) (adopts knowing)))) ≡ map (known_as regions) (current_of later)
   all_now =
@@ -365,7 +365,7 @@ module _ (inputs : Inputs) (policy : Policy) (knowing : Knowing) (known : List �
       let r = own.0 in
       let d = result_at (run_at later k) seq in
       let listed = listing_of (file_given later) in
-      let as_written : Record = with_spent r (spent_at later (number_among_all later k seq)) in
+      let as_written : Record = with_admitted r (admitted_at later (number_among_all later k seq)) in
       let in_runs : k < length (run_values (input_runs later)) = omega (arith, there.0, length-map (input_runs later) (λ p. p.run)) in
       let has = get_object (results_of (run_at later k)) seq there.1 (run_objects (run_values (input_runs later)) k in_runs (objects_in (log_sources later))) in
       ap state_in own.2

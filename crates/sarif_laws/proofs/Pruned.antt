@@ -22,7 +22,7 @@ use Rattle.sarif_entries.specs.declared.entry.Entry.{Entry}
 use Rattle.sarif_entries.specs.File.{File, file_of}
 use Rattle.sarif_entries.specs.Matching.{is_expired, matches}
 use Rattle.sarif_entries.specs.Numbering.{numbered_from, renumbered, with_number}
-use Rattle.sarif_suppress.specs.Limited.{all_spent, limited, with_spent}
+use Rattle.sarif_suppress.specs.Limited.{all_admitted, limited, with_admitted}
 use Rattle.sarif_suppress.specs.Suppressing.{is_unused}
 use Rattle.sarif_suppress.specs.Written.{suppressions_of}
 use Rattle.sarif_inputs.specs.Faults.{faults_of}
@@ -155,20 +155,20 @@ module _ (inputs : Inputs) (policy : Policy) (renewal : Renewal) (text : List �
   alike_at i after before is_after is_before =
       let from = from_at file rs i before is_before in
       let r = from.0 in
-      let was = slice_index_or (all_spent file rs) i [] in
-      let now = slice_index_or (all_spent (renumbered later) rs) i [] in
+      let was = slice_index_or (all_admitted file rs) i [] in
+      let now = slice_index_or (all_admitted (renumbered later) rs) i [] in
       let at_old = found_at file rs i r from.1 in
       let at_new = found_at (renumbered later) rs i r from.1 in
-      let before_is : before ≡ with_spent r was = same_Some before (with_spent r was) (sym is_before ∙ at_old) in
-      let after_is : after ≡ with_spent r now = same_Some after (with_spent r now) (sym is_after ∙ at_new) in
-      let in_all = slice_get_within (limited file rs) i (with_spent r was) at_old in
-      let there = get_or_from_slice_get (limited file rs) i (with_spent r was) (with_spent r was) at_old in
+      let before_is : before ≡ with_admitted r was = same_Some before (with_admitted r was) (sym is_before ∙ at_old) in
+      let after_is : after ≡ with_admitted r now = same_Some after (with_admitted r now) (sym is_after ∙ at_new) in
+      let in_all = slice_get_within (limited file rs) i (with_admitted r was) at_old in
+      let there = get_or_from_slice_get (limited file rs) i (with_admitted r was) (with_admitted r was) at_old in
       record {
         level = ap (λ (q : Record). q.level) after_is ∙ ap (λ (q : Record). q.level) (sym before_is);
         listed = λ own. ap (λ q. suppressions_of own (renumbered later) q) after_is
             ∙ listed_later inputs.suppressions text inputs.today file how (limited_of inputs) added rs (input_file inputs sound) later_is_read i r was now
             from.1 at_old at_new own
-            ∙ same_list how (may_hit policy) file (limited_of inputs) states (with_spent r was) i own in_all there none
+            ∙ same_list how (may_hit policy) file (limited_of inputs) states (with_admitted r was) i own in_all there none
             ∙ ap (λ q. suppressions_of own file q) (sym before_is);
       }
 

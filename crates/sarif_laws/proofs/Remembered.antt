@@ -47,7 +47,7 @@ use Rattle.sarif_merge.specs.Life.{merge_in}
 use Rattle.sarif_merge.proofs.OwnResult.{faultless_runs}
 use Rattle.sarif_upkeep.specs.Heard.{heard}
 use Rattle.sarif_upkeep.specs.Known.{adopts, known_before, known_now, runs_known}
-use Rattle.sarif_log.proofs.Limits.{records_unspent}
+use Rattle.sarif_log.proofs.Limits.{records_unadmitted}
 use Rattle.sarif_merge.specs.MergedLog.{current_of, file_given}
 use Rattle.sarif_laws.specs.KnownAgain.{IsKnownAgain, as_read, run_as_read}
 use Rattle.sarif_laws.proofs.Grouping.{known_total, total_results, total_runs}
@@ -148,7 +148,7 @@ readable_as own options true r ignored fit readable = record {
   snippet_placed = readable.snippet_placed;
   no_region = λ none. absurd (true≢false (sym (fit refl) ∙ none));
   no_snippet = λ none. absurd (true≢false (sym (fit refl) ∙ none));
-  unspent = readable.unspent;
+  unadmitted = readable.unadmitted;
 }
 readable_as own options false r ignored fit readable = record {
   guid = readable.guid;
@@ -163,7 +163,7 @@ readable_as own options false r ignored fit readable = record {
   snippet_placed = none_placed r.place;
   no_region = λ _. refl;
   no_snippet = λ _. refl;
-  unspent = readable.unspent;
+  unadmitted = readable.unadmitted;
 }
 
 module _ (own options : RecordOptions) (regions : Bool) (ignored : options.ignored ≡ own.ignored) (fit : regions ≡ true → options.regions ≡ true) where
@@ -212,7 +212,7 @@ log_alike runs =
 
 module _ (inputs : Inputs) (policy : Policy) (knowing : Knowing) (none : faults_of inputs ≡ []) where
   records_read : map as_read (merge_in inputs policy).records ≡ current_of inputs
-  records_read = read_limited (file_given inputs) (current_of inputs) (records_unspent (input_runs inputs))
+  records_read = read_limited (file_given inputs) (current_of inputs) (records_unadmitted (input_runs inputs))
 
   -- with any options that ignore the same, and that read regions if the known log has them
   pub can_be_read : (options : RecordOptions) → options.ignored ≡ inputs.checks.ignored

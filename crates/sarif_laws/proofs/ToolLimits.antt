@@ -1,5 +1,5 @@
 -- An entry that names a tool counts the results of that tool alone: results of other tools don't use it up.
-use Rattle.std.proofs.Common.{◌≡◌, ℕ, ◌+◌, Bool, true, false, ◌&&◌, ◌||◌, bytes_eq, cond, List, [], ◌∷◌, ◌++◌, Option, Some, None, is_some, nat_le, refl, sym, ap, ap₂, ◌∙◌, append-nil, append_assoc, arith, true≢false, if◌then◌else◌}
+use Rattle.std.proofs.Common.{◌≡◌, ℕ, ◌+◌, Bool, true, false, ◌&&◌, ◌||◌, not, bytes_eq, cond, List, [], ◌∷◌, ◌++◌, Option, Some, None, is_some, nat_le, refl, sym, ap, ap₂, ◌∙◌, append-nil, append_assoc, arith, true≢false, if◌then◌else◌}
 use Rattle.std.specs.Prelude.{is_none}
 use Rattle.std.specs.List.{AllByRecursion, list_all}
 use Rattle.std.specs.Option.{option_map_or}
@@ -19,7 +19,7 @@ use Rattle.sarif_entries.specs.Condition.{holds, text_in}
 use Rattle.sarif_entries.specs.File.{File}
 use Rattle.sarif_entries.specs.Matching.{hold, is_met}
 use Rattle.sarif_filing.specs.Numbers.{numbers_from}
-use Rattle.sarif_suppress.specs.Limited.{is_used_up_by, limited, limited_after, met_by, spent_after, with_spent}
+use Rattle.sarif_suppress.specs.Limited.{has_room_after, limited, limited_after, met_by, admitted_after, with_admitted}
 use Rattle.sarif_laws.specs.Sums.{is_limited_by_tool, names_its_tool}
 
 -- ---- the tool of an entry
@@ -74,9 +74,9 @@ by_limit : (limit : Option Limit) (named : Bool) (m n : ℕ) → (is_none limit 
 by_limit None named m n is same = refl
 by_limit (Some limit) named m n is same = ap (nat_le limit.most) (same is)
 
-used_apart : (today : Option ℕ) (xs before : List Record) (r : Record) (e : Entry) → names_its_tool e ≡ true → has_tool r.tool xs ≡ false
-    → (is_met today e r && is_used_up_by today (xs ++ before) e) ≡ (is_met today e r && is_used_up_by today before e)
-used_apart today xs before r e names other = by_test (is_met today e r) refl
+room_apart : (today : Option ℕ) (xs before : List Record) (r : Record) (e : Entry) → names_its_tool e ≡ true → has_tool r.tool xs ≡ false
+    → (is_met today e r && has_room_after today (xs ++ before) e) ≡ (is_met today e r && has_room_after today before e)
+room_apart today xs before r e names other = by_test (is_met today e r) refl
   where
     by_tool : is_met today e r ≡ true → (o : Option (List ℕ)) → text_in kinds.Tool e.conditions ≡ o → is_some o ≡ true
         → met_by today e (xs ++ before) ≡ met_by today e before
@@ -85,35 +85,35 @@ used_apart today xs before r e names other = by_test (is_met today e r) refl
         met_apart today e tool named xs before (ap (λ t. has_tool t xs) (sym (tool_met today e tool named r met)) ∙ other)
 
     by_test : (b : Bool) → is_met today e r ≡ b
-        → (is_met today e r && is_used_up_by today (xs ++ before) e) ≡ (is_met today e r && is_used_up_by today before e)
+        → (is_met today e r && has_room_after today (xs ++ before) e) ≡ (is_met today e r && has_room_after today before e)
     by_test true met =
-        ap (λ b. is_met today e r && b)
+        ap (λ b. is_met today e r && (is_some e.limit && not b))
         (by_limit e.limit (is_some (text_in kinds.Tool e.conditions)) (met_by today e (xs ++ before)) (met_by today e before) names
         (by_tool met (text_in kinds.Tool e.conditions) refl))
     by_test false unmet =
-        ap (λ b. b && is_used_up_by today (xs ++ before) e) unmet ∙ sym (ap (λ b. b && is_used_up_by today before e) unmet)
+        ap (λ b. b && has_room_after today (xs ++ before) e) unmet ∙ sym (ap (λ b. b && has_room_after today before e) unmet)
 
 module _ (file : File) (names : is_limited_by_tool file ≡ true) where
   numbers_apart : (xs before : List Record) (r : Record) (n : ℕ) (es : List Entry) → list_all names_its_tool es ≡ true → has_tool r.tool xs ≡ false
-      → numbers_from (λ e. is_met file.today e r && is_used_up_by file.today (xs ++ before) e) n es
-      ≡ numbers_from (λ e. is_met file.today e r && is_used_up_by file.today before e) n es
+      → numbers_from (λ e. is_met file.today e r && has_room_after file.today (xs ++ before) e) n es
+      ≡ numbers_from (λ e. is_met file.today e r && has_room_after file.today before e) n es
   numbers_apart xs before r n [] all other = refl
   numbers_apart xs before r n (e ∷ es) all other =
       let both = and_parts (names_its_tool e) (list_all names_its_tool es) all in
-      ap₂ (λ b ns. if b then n ∷ ns else ns) (used_apart file.today xs before r e both.0 other) (numbers_apart xs before r (n + 1) es both.1 other)
+      ap₂ (λ b ns. if b then n ∷ ns else ns) (room_apart file.today xs before r e both.0 other) (numbers_apart xs before r (n + 1) es both.1 other)
 
   limited_apart : (xs before ys : List Record) → AllByRecursion (λ r. has_tool r.tool xs ≡ false) ys
       → limited_after file (xs ++ before) ys ≡ limited_after file before ys
   limited_apart xs before [] others = refl
   limited_apart xs before (r ∷ ys) others =
-      ap₂ (λ numbers rest. with_spent r numbers ∷ rest) (numbers_apart xs before r 0 file.entries names others.0)
+      ap₂ (λ numbers rest. with_admitted r numbers ∷ rest) (numbers_apart xs before r 0 file.entries names others.0)
       (ap (λ b. limited_after file b ys) (append_assoc xs before (r ∷ [])) ∙ limited_apart xs (before ++ r ∷ []) ys others.1)
 
   limited_joined : (before xs ys : List Record)
       → limited_after file before (xs ++ ys) ≡ limited_after file before xs ++ limited_after file (before ++ xs) ys
   limited_joined before [] ys = ap (λ b. limited_after file b ys) (sym (append-nil before))
   limited_joined before (x ∷ xs) ys =
-      ap (λ l. with_spent x (spent_after file before x) ∷ l)
+      ap (λ l. with_admitted x (admitted_after file before x) ∷ l)
       (limited_joined (before ++ x ∷ []) xs ys
       ∙ ap (λ b. limited_after file (before ++ x ∷ []) xs ++ limited_after file b ys) (append_assoc before (x ∷ []) xs))
 
@@ -131,7 +131,7 @@ module _ (file : File) (names : is_limited_by_tool file ≡ true) where
       by_test true is = absurd (true≢false (sym itself ∙ apart r.tool is))
       by_test false is = refl
 
-  -- the results of each of two lists have the same entries used up before them as in that list alone
+  -- the same entries admit the results of each of two lists as in that list alone
   pub limited_both : (xs ys : List Record) → HaveNoToolInCommon xs ys → limited file (xs ++ ys) ≡ limited file xs ++ limited file ys
   limited_both xs ys apart =
       limited_joined [] xs ys

@@ -20,7 +20,7 @@ use Rattle.sarif_entries.specs.declared.condition.ConditionKind.TheVariants as k
 use Rattle.sarif_entries.specs.declared.entry.Entry.{Entry}
 use Rattle.sarif_entries.specs.declared.limit.Limit.{Limit}
 use Rattle.sarif_entries.specs.File.{File}
-use Rattle.sarif_entries.specs.Matching.{hold, is_expired, is_met, is_used_up, matches}
+use Rattle.sarif_entries.specs.Matching.{hold, is_admitted, is_expired, is_met, matches}
 use Rattle.sarif_filing.specs.Numbers.{numbers_from}
 use Rattle.sarif_inputs.specs.Snippets.{compares_snippets, names_snippet}
 use Rattle.sarif_known_laws.proofs.BarePartners.{bare_both}
@@ -28,7 +28,7 @@ use Rattle.sarif_known_laws.proofs.BareRecords.{bare}
 use Rattle.sarif_log.specs.LogBy.{listing_of, partner_in, states_from, states_of, taken_of}
 use Rattle.sarif_log.specs.MergedRuns.{absent_runs, if_any, keep_if, unmatched, written}
 use Rattle.sarif_match.specs.Partners.{is_taken, partners_of}
-use Rattle.sarif_suppress.specs.Limited.{is_used_up_by, limited, limited_after, met_by, spent_after, with_spent}
+use Rattle.sarif_suppress.specs.Limited.{has_room_after, limited, limited_after, met_by, admitted_after, with_admitted}
 use Rattle.sarif_suppress.specs.Suppressing.{is_unused, matching, unused_of}
 use Rattle.sarif_suppress.specs.Written.{suppressions_of, with_objects}
 use Rattle.sarif_laws.proofs.LaterResults.{IsAlike}
@@ -72,9 +72,9 @@ blind_entries today (e ∷ es) none =
     let parts = or_parts (names_snippet e) (list_any names_snippet es) none in
     (blind_entry today e parts.0, blind_entries today es parts.1)
 
-used_up_bare : (limit : Option Limit) (r : Record) → is_used_up limit (bare r) ≡ is_used_up limit r
-used_up_bare None r = refl
-used_up_bare (Some limit) r = refl
+is_admitted_bare : (limit : Option Limit) (r : Record) → is_admitted limit (bare r) ≡ is_admitted limit r
+is_admitted_bare None r = refl
+is_admitted_bare (Some limit) r = refl
 
 module _ (today : Option ℕ) where
   met_bare : (e : Entry) → IsBlindEntry today e → (rs : List Record) → met_by today e (map bare rs) ≡ met_by today e rs
@@ -84,20 +84,20 @@ module _ (today : Option ℕ) where
       ∙ ap₂ (λ b n. cond b 1 0 + n) (blind r) (met_bare e blind rs)
       ∙ sym (sum_by-cons (λ x. cond (is_met today e x) 1 0) r rs)
 
-  used_bare : (e : Entry) → IsBlindEntry today e → (before : List Record) (r : Record)
-      → (is_met today e (bare r) && is_used_up_by today (map bare before) e) ≡ (is_met today e r && is_used_up_by today before e)
-  used_bare e blind before r =
-      ap₂ (λ a n. a && option_map_or (λ limit. nat_le limit.most n) e.limit false) (blind r) (met_bare e blind before)
+  room_bare : (e : Entry) → IsBlindEntry today e → (before : List Record) (r : Record)
+      → (is_met today e (bare r) && has_room_after today (map bare before) e) ≡ (is_met today e r && has_room_after today before e)
+  room_bare e blind before r =
+      ap₂ (λ a n. a && (is_some e.limit && not (option_map_or (λ limit. nat_le limit.most n) e.limit false))) (blind r) (met_bare e blind before)
 
   numbers_bare : (n : ℕ) (es : List Entry) → AllByRecursion (IsBlindEntry today) es → (before : List Record) (r : Record)
-      → numbers_from (λ e. is_met today e (bare r) && is_used_up_by today (map bare before) e) n es
-      ≡ numbers_from (λ e. is_met today e r && is_used_up_by today before e) n es
+      → numbers_from (λ e. is_met today e (bare r) && has_room_after today (map bare before) e) n es
+      ≡ numbers_from (λ e. is_met today e r && has_room_after today before e) n es
   numbers_bare n [] blind before r = refl
   numbers_bare n (e ∷ es) blind before r =
-      ap₂ (λ b ns. if b then n ∷ ns else ns) (used_bare e blind.0 before r) (numbers_bare (n + 1) es blind.1 before r)
+      ap₂ (λ b ns. if b then n ∷ ns else ns) (room_bare e blind.0 before r) (numbers_bare (n + 1) es blind.1 before r)
 
   matches_bare : (e : Entry) → IsBlindEntry today e → (r : Record) → matches today e (bare r) ≡ matches today e r
-  matches_bare e blind r = ap₂ (λ a b. not a && b) (used_up_bare e.limit r) (blind r)
+  matches_bare e blind r = ap₂ (λ a b. a && b) (is_admitted_bare e.limit r) (blind r)
 
   matching_bare : (es : List Entry) → AllByRecursion (IsBlindEntry today) es → (r : Record)
       → filter (λ e. matches today e (bare r)) es ≡ filter (λ e. matches today e r) es
@@ -117,10 +117,10 @@ module _ (file : File) (none : compares_snippets file ≡ false) where
   limited_bare_after : (before rs : List Record) → limited_after file (map bare before) (map bare rs) ≡ map bare (limited_after file before rs)
   limited_bare_after before [] = refl
   limited_bare_after before (r ∷ rs) =
-      ap₂ (λ ns more. with_spent (bare r) ns ∷ more) (numbers_bare file.today 0 file.entries blind before r)
+      ap₂ (λ ns more. with_admitted (bare r) ns ∷ more) (numbers_bare file.today 0 file.entries blind before r)
       (ap (λ l. limited_after file l (map bare rs)) (sym (map-append bare before (r ∷ []))) ∙ limited_bare_after (before ++ r ∷ []) rs)
 
-  -- the same entries are used up before each result
+  -- the same entries admit each result
   pub limited_bare : (rs : List Record) → limited file (map bare rs) ≡ map bare (limited file rs)
   limited_bare rs = limited_bare_after [] rs
 

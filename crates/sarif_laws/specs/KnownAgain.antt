@@ -8,11 +8,11 @@ use Rattle.sarif_runs.specs.declared.run_options.RecordOptions.{RecordOptions}
 use Rattle.sarif_known.specs.Chosen.{Chosen}
 use Rattle.sarif_known.specs.KnownRun.{known_run}
 use Rattle.sarif_known.specs.Laws.{AreKnownAgain}
-use Rattle.sarif_suppress.specs.Limited.{with_spent}
+use Rattle.sarif_suppress.specs.Limited.{with_admitted}
 
--- the record as it is read, without the entries of a suppression file that are used up before it
+-- the record as it is read, without the entries of a suppression file that admit it
 abbrev pub as_read : Record → Record
-as_read r = with_spent r []
+as_read r = with_admitted r []
 
 -- a run with its records as they are read
 abbrev pub run_as_read : Chosen → Chosen

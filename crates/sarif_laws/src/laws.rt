@@ -95,7 +95,7 @@ pub fn pruning_changes_no_run()
 
 /// The bytes that a merge gives as its known log are read without an error, if they are UTF-8, as each string is. Wherever
 /// its runs are read, none has an error, and the records of their results are exactly those of the results that become or
-/// stay known, in order, as they are read: without the entries of the suppression file that are used up before them.
+/// stay known, in order, as they are read: without the entries of the suppression file that admit them.
 pub fn the_known_log_is_read_again()
     ensures { (inputs : Inputs) (policy : Policy) (knowing : Knowing) → faults_of inputs ≡ []
         → IsUtf8 (remembered (merge_in inputs policy) knowing).text

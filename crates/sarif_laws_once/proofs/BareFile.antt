@@ -1,6 +1,6 @@
 -- An entry that compares no snippet matches a result without its region and its snippet as it matches the result.
 use Rattle.std.proofs.Common.{◌≡◌, ◌+◌, ℕ, Bool, true, false, ◌&&◌, not, ◌||◌, cond, List, [], ◌∷◌, ◌++◌, map, fold, filter, Option, Some, None, if◌then◌else◌, refl, sym, ap, ap₂, ◌∙◌}
-use Rattle.std.specs.Prelude.{nat_le}
+use Rattle.std.specs.Prelude.{is_some, nat_le}
 use Rattle.std.specs.List.{list_all, list_any}
 use Rattle.std.specs.Option.{option_map_or}
 use Rattle.std.proofs.lemmas.Bool.{and_parts}
@@ -12,10 +12,10 @@ use Rattle.sarif_entries.specs.Condition.{holds}
 use Rattle.sarif_entries.specs.declared.entry.Entry.{Entry}
 use Rattle.sarif_entries.specs.declared.limit.Limit.{Limit}
 use Rattle.sarif_entries.specs.File.{File}
-use Rattle.sarif_entries.specs.Matching.{hold, is_expired, is_met, is_used_up, matches}
+use Rattle.sarif_entries.specs.Matching.{hold, is_admitted, is_expired, is_met, matches}
 use Rattle.sarif_filing.specs.Numbers.{numbers_from}
 use Rattle.sarif_model.specs.declared.record.Record.{Record}
-use Rattle.sarif_suppress.specs.Limited.{is_used_up_by, limited, limited_after, met_by, spent_after, with_spent}
+use Rattle.sarif_suppress.specs.Limited.{has_room_after, is_used_up_by, limited, limited_after, met_by, admitted_after, with_admitted}
 use Rattle.sarif_suppress.specs.Suppressing.{is_unused, unused_of}
 use Rattle.sarif_suppress.specs.Written.{suppressions_of, with_objects}
 use Rattle.sarif_laws_once.specs.Snippets.{compares_no_snippet, compares_none, is_no_snippet}
@@ -47,13 +47,13 @@ hold_bare (c ∷ cs) r none =
 met_bare : (today : Option ℕ) (e : Entry) (r : Record) → compares_none e ≡ true → is_met today e (bare r) ≡ is_met today e r
 met_bare today e r none = ap (λ b. not (is_expired today e) && b) (hold_bare e.conditions r none)
 
--- the numbers of entries that are used up stay
-used_up_bare : (limit : Option Limit) (r : Record) → is_used_up limit (bare r) ≡ is_used_up limit r
-used_up_bare None r = refl
-used_up_bare (Some limit) r = refl
+-- the numbers of the entries that admit a result stay
+is_admitted_bare : (limit : Option Limit) (r : Record) → is_admitted limit (bare r) ≡ is_admitted limit r
+is_admitted_bare None r = refl
+is_admitted_bare (Some limit) r = refl
 
 matches_bare : (today : Option ℕ) (e : Entry) (r : Record) → compares_none e ≡ true → matches today e (bare r) ≡ matches today e r
-matches_bare today e r none = ap₂ (λ a b. not a && b) (used_up_bare e.limit r) (met_bare today e r none)
+matches_bare today e r none = ap₂ (λ a b. a && b) (is_admitted_bare e.limit r) (met_bare today e r none)
 
 counted_bare : (test : Record → Bool) → ((r : Record) → test (bare r) ≡ test r) → (n : ℕ) (rs : List Record)
     → fold (λ m r. m + cond (test r) 1 0) n (map bare rs) ≡ fold (λ m r. m + cond (test r) 1 0) n rs
@@ -100,16 +100,16 @@ module _ (f g : Entry → Bool) (same : (e : Entry) → compares_none e ≡ true
 -- ---- the file
 
 module _ (file : File) (none : compares_no_snippet file ≡ true) where
-  spent_bare : (before : List Record) (r : Record) → spent_after file (map bare before) (bare r) ≡ spent_after file before r
-  spent_bare before r =
-      numbers_same (λ e. is_met file.today e (bare r) && is_used_up_by file.today (map bare before) e)
-      (λ e. is_met file.today e r && is_used_up_by file.today before e)
-      (λ e no. ap₂ (λ a b. a && b) (met_bare file.today e r no) (used_bare file.today before e no)) 0 file.entries none
+  admitted_bare : (before : List Record) (r : Record) → admitted_after file (map bare before) (bare r) ≡ admitted_after file before r
+  admitted_bare before r =
+      numbers_same (λ e. is_met file.today e (bare r) && has_room_after file.today (map bare before) e)
+      (λ e. is_met file.today e r && has_room_after file.today before e)
+      (λ e no. ap₂ (λ a b. a && (is_some e.limit && not b)) (met_bare file.today e r no) (used_bare file.today before e no)) 0 file.entries none
 
   limited_bare_after : (before rs : List Record) → limited_after file (map bare before) (map bare rs) ≡ map bare (limited_after file before rs)
   limited_bare_after before [] = refl
   limited_bare_after before (r ∷ rs) =
-      ap₂ (λ numbers qs. with_spent (bare r) numbers ∷ qs) (spent_bare before r)
+      ap₂ (λ numbers qs. with_admitted (bare r) numbers ∷ qs) (admitted_bare before r)
       (ap (λ qs. limited_after file qs (map bare rs)) (sym (map-append bare before (r ∷ []))) ∙ limited_bare_after (before ++ r ∷ []) rs)
 
   pub limited_bare : (rs : List Record) → limited file (map bare rs) ≡ map bare (limited file rs)

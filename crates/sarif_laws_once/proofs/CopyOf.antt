@@ -20,7 +20,7 @@ use Rattle.sarif_results.specs.Drafts.{IsObject, IsRun, Listing}
 use Rattle.sarif_results.proofs.JudgedCounts.{records_of_logs}
 use Rattle.sarif_runs.specs.Judging.{faults_of_runs, records_of, run_values, skips}
 use Rattle.sarif_runs.specs.Placed.{Placed}
-use Rattle.sarif_suppress.specs.Limited.{all_spent, with_spent}
+use Rattle.sarif_suppress.specs.Limited.{all_admitted, with_admitted}
 use Rattle.sarif_log.specs.LogBy.{listing_of, states_of, taken_of}
 use Rattle.sarif_log.specs.MergedRuns.{annotated_items, bare, merged_run, merged_runs, own_results, with_results, written, written_all}
 use Rattle.sarif_log.proofs.RunResults.{still_out, taken_out}
@@ -28,7 +28,7 @@ use Rattle.json_parts.specs.Without.{without}
 use Rattle.serde_json.specs.View.{items_of}
 use Rattle.std.specs.Prelude.{codes}
 use Rattle.sarif_prepare.specs.By.{inputs_if}
-use Rattle.sarif_prepare.specs.Once.{current_once, findings_only, limited_once, spent_once, states_once, with_each}
+use Rattle.sarif_prepare.specs.Once.{current_once, findings_only, limited_once, admitted_once, states_once, with_each}
 use Rattle.sarif_prepare.proofs.Limits.{each_long, once_long}
 use Rattle.sarif_once.proofs.Marks.{findings_long}
 use Rattle.sarif_once.proofs.Spread.{spread_long}
@@ -105,11 +105,11 @@ map_at f (x ∷ xs) zero = refl
 map_at f (x ∷ xs) (suc i) = map_at f xs i
 
 each_at : (rs : List Record) (lists : List (List ℕ)) (i : ℕ) (r : Record) (numbers : List ℕ) → slice_get rs i ≡ Some r → slice_get lists i ≡ Some numbers
-    → slice_get (with_each rs lists) i ≡ Some (with_spent r numbers)
+    → slice_get (with_each rs lists) i ≡ Some (with_admitted r numbers)
 each_at [] lists i r numbers is_r is_l = let never : ⊥ = cc in absurd never
 each_at (q ∷ rs) [] i r numbers is_r is_l = let never : ⊥ = cc in absurd never
 each_at (q ∷ rs) (l ∷ lists) zero r numbers is_r is_l =
-    let same_r : q ≡ r = cc in let same_l : l ≡ numbers = cc in ap₂ (λ p m. Some (with_spent p m)) same_r same_l
+    let same_r : q ≡ r = cc in let same_l : l ≡ numbers = cc in ap₂ (λ p m. Some (with_admitted p m)) same_r same_l
 each_at (q ∷ rs) (l ∷ lists) (suc i) r numbers is_r is_l = each_at rs lists i r numbers is_r is_l
 
 there_is : {X Y : Type 0} (xs : List X) (ys : List Y) (i : ℕ) (y : Y) → length xs ≡ length ys → slice_get ys i ≡ Some y
@@ -161,7 +161,7 @@ module _ (v : MatchingVersion) (file : File) (now before : List Placed) (are : A
   states = states_once v cs bs
 
   abbrev lists : List (List ℕ)
-  lists = spent_once file cs
+  lists = admitted_once file cs
 
   all_written : flat_map results_of (current_once v file now before)
       ≡ written_all (listing_of file) (limited_once file cs) states (flat_map results_of (run_values now))
@@ -172,13 +172,13 @@ module _ (v : MatchingVersion) (file : File) (now before : List Placed) (are : A
       runs_written (listing_of file) (limited_once file cs) states (run_values now) are (long ∙ records) (many ∙ sym long)
 
   pub written_with : (n : ℕ) (r : Record) (numbers : List ℕ) (state : State) → slice_get (records_of now) n ≡ Some r
-      → slice_get (spent_once file (records_of now)) n ≡ Some numbers
+      → slice_get (admitted_once file (records_of now)) n ≡ Some numbers
       → slice_get (states_once v (records_of now) (records_of before)) n ≡ Some state
       → slice_get (flat_map results_of (current_once v file now before)) n
-      ≡ option_map (written (listing_of file) (with_spent r numbers) state) (slice_get (flat_map results_of (run_values now)) n)
+      ≡ option_map (written (listing_of file) (with_admitted r numbers) state) (slice_get (flat_map results_of (run_values now)) n)
   written_with n r numbers state is_r is_l is_s =
       ap (λ ds. slice_get ds n) all_written
-      ∙ at_place (listing_of file) (limited_once file cs) states (flat_map results_of (run_values now)) n (with_spent r numbers) state
+      ∙ at_place (listing_of file) (limited_once file cs) states (flat_map results_of (run_values now)) n (with_admitted r numbers) state
       (each_at cs lists n r numbers is_r is_l) is_s
 
 pub written_alike : (inputs : Inputs) (m n : ℕ) → faults_of inputs ≡ [] → inputs.checks.once ≡ true
@@ -191,23 +191,23 @@ written_alike inputs m n none once is =
     let cs = records_of now in
     let bs = records_of before in
     let fine = apart_faults inputs none in
-    let spent = all_spent file (findings_only cs) in
+    let admitted = all_admitted file (findings_only cs) in
     let given = states_of v (findings_only cs) (findings_only bs) in
     let record_there = copy cs m n is in
-    let numbers_there = there_is (spent_once file cs) cs m record_there.0 (once_long file cs) record_there.1 in
+    let numbers_there = there_is (admitted_once file cs) cs m record_there.0 (once_long file cs) record_there.1 in
     let state_there = there_is (states_once v cs bs) cs m record_there.0 (spread_long New cs given) record_there.1 in
     let written_here =
     written_with v file now before (objects_in (log_sources inputs)) fine.log_runs (log_sides (reading_checks inputs) 0 inputs.logs) in
     let as_once : (k : ℕ) → written_at inputs k ≡ slice_get (flat_map results_of (current_once v file now before)) k =
     λ k. ap (λ b. slice_get (flat_map results_of (inputs_if b v file now before)) k) once in
     record {
-      r = with_spent record_there.0 numbers_there.0;
+      r = with_admitted record_there.0 numbers_there.0;
       state = state_there.0;
       first = as_once m ∙ written_here m record_there.0 numbers_there.0 state_there.0 record_there.1 numbers_there.1 state_there.1;
       second =
           as_once n
           ∙ written_here n record_there.0 numbers_there.0 state_there.0 (same_record cs m n is)
-          (sym (spread_same cs m n is [] spent) ∙ numbers_there.1) (sym (spread_same cs m n is New given) ∙ state_there.1);
+          (sym (spread_same cs m n is [] admitted) ∙ numbers_there.1) (sym (spread_same cs m n is New given) ∙ state_there.1);
     }
 
 pub matched_alike : (inputs : Inputs) (m n : ℕ) → slice_get (findings_of (baseline_of inputs)) m ≡ Some n

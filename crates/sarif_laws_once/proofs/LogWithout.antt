@@ -26,7 +26,7 @@ use Rattle.sarif_log.specs.LogBy.{current_runs, leftover_runs, listing_of, state
 use Rattle.sarif_log.specs.MergedRuns.{absent_runs, merged_runs}
 use Rattle.sarif_log.proofs.Sides.{records_present, states_long, taken_long}
 use Rattle.sarif_prepare.specs.By.{copies_if, inputs_if, left_if, runs_counted_if}
-use Rattle.sarif_prepare.specs.Once.{copies_written, current_once, findings_only, leftover_once, limited_once, marks_of_absent, marks_of_runs, runs_counted, spent_once, states_once, taken_once}
+use Rattle.sarif_prepare.specs.Once.{copies_written, current_once, findings_only, leftover_once, limited_once, marks_of_absent, marks_of_runs, runs_counted, admitted_once, states_once, taken_once}
 use Rattle.sarif_prepare.proofs.CopyDrafts.{marks_of_logs}
 use Rattle.sarif_prepare.proofs.Limits.{each_long, once_left, once_long}
 use Rattle.sarif_inputs.specs.Faults.{faults_of}
@@ -77,7 +77,7 @@ module _ (v : MatchingVersion) (file : File) (now before : List Placed)
 
   left_now : each_without all_now (current_once v file now before) ≡ current_runs v file (without_copies now) (without_copies before)
   left_now =
-      let limited_long = each_long cs (spent_once file cs) (once_long file cs) in
+      let limited_long = each_long cs (admitted_once file cs) (once_long file cs) in
       let states_many = spread_long New cs (states_of v found older) in
       let states_found : length (states_of v found older) ≡ length found = states_long v older (partners_in v found older) 0 found in
       inputs_left (listing_of file) (copies_of cs) (limited_once file cs) (states_once v cs bs) (run_values now) are_now total

@@ -1,7 +1,7 @@
 -- The addresses of places: their characters, and how they begin.
-use Rattle.std.proofs.Common.{◌≡◌, ◌<◌, ◌^◌, ◌++◌, ◌%◌, ◌+◌, ◌==◌, ℕ, Bool, true, false, not, ◌&&◌, ◌||◌, nat_eq, nat_le, List, [], ◌∷◌, Option, Some, None, IfSome, codes, decimal, drop, flat_map, length, refl, sym, ap, ◌∙◌, subst, if◌then◌else◌, arith, ◌⊎◌, inl, inr}
+use Rattle.std.proofs.Common.{◌≡◌, ◌<◌, ◌^◌, ◌++◌, ◌%◌, ◌+◌, ◌==◌, ℕ, Bool, true, false, not, ◌&&◌, nat_eq, nat_le, List, [], ◌∷◌, Option, Some, None, IfSome, codes, decimal, drop, flat_map, length, refl, sym, ap, ◌∙◌, subst, if◌then◌else◌, arith, inl, inr}
 use Rattle.std.specs.Prelude.{unwrap_or}
-use Rattle.std.specs.List.{All, before_first, count_by, list_all, list_any, onto_first, slice_split, starts_with, take_while}
+use Rattle.std.specs.List.{All, before_first, count_by, list_all, onto_first, slice_split, starts_with, take_while}
 use Rattle.std.specs.Option.{option_map_or, option_or}
 use Rattle.std.proofs.lemmas.Bool.{true≢false}
 use Rattle.std.proofs.lemmas.Bool.Decides.{Decides-eqb, nat_tests}

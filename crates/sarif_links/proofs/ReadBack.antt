@@ -1,5 +1,5 @@
 -- What an address has for `{path}`: the path is read back from it, and its segments are names.
-use Rattle.std.proofs.Common.{◌≡◌, ◌≢◌, ◌<◌, ◌++◌, ◌+◌, ◌==◌, ℕ, Bool, true, false, not, ◌&&◌, ◌||◌, List, [], ◌∷◌, Option, Some, None, IfSome, codes, decimal, flat_map, map, refl, sym, ap, ◌∙◌, subst, append_assoc, append-nil, if◌then◌else◌, arith}
+use Rattle.std.proofs.Common.{◌≡◌, ◌≢◌, ◌<◌, ◌++◌, ◌+◌, ◌==◌, ℕ, Bool, true, false, not, ◌&&◌, ◌||◌, List, [], ◌∷◌, Option, Some, None, IfSome, decimal, flat_map, map, refl, sym, ap, ◌∙◌, subst, append_assoc, if◌then◌else◌, arith}
 use Rattle.std.specs.Prelude.{bytes_eq, is_some, unwrap_or}
 use Rattle.std.specs.List.{All, count_by, list_all, list_any, onto_first, slice_split}
 use Rattle.std.specs.Option.{option_map_or}

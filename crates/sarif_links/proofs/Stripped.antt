@@ -1,5 +1,5 @@
 -- What is left of a string without what it begins with.
-use Rattle.std.proofs.Common.{◌≡◌, ◌+◌, ℕ, Bool, true, false, List, length, drop, nat_eq, Option, Some, None, MatchOption, sym, subst, ap, refl, ◌∙◌, if◌then◌else◌}
+use Rattle.std.proofs.Common.{◌≡◌, ◌+◌, ℕ, true, false, List, length, drop, nat_eq, Option, Some, None, MatchOption, sym, subst, ap, refl, ◌∙◌, if◌then◌else◌}
 use Rattle.std.specs.Prelude.{option_map}
 use Rattle.std.specs.Borrow.{Bor}
 use Rattle.std.specs.List.{starts_with}

@@ -47,7 +47,7 @@ taken_of version cs bs =
 
 -- ---- the log
 
--- the records of all results of runs, each with the entries of the file that are used up before it
+-- the records of all results of runs, each with the entries of the file that admit it
 abbrev pub limited_records : File → List Placed → List Record
 limited_records file runs = limited file (records_of runs)
 

@@ -23,7 +23,8 @@ use crate::merged::Merged;
 use crate::merged_text::{Side, log_text};
 use crate::places::list_places;
 use crate::prepared::Prepared;
-use sarif_counts::{Counts, gate_value, verdict};
+use sarif_counts::{Counts, Life, gate_value, verdict};
+use sarif_findings::Finding;
 use sarif_model::Text;
 use sarif_options::{Options, Policy};
 use serde_json::Value;
@@ -88,12 +89,18 @@ fn count_places(places: &Option<Vec<CopyPlace>>) -> Option<u64>
     }
 }
 
+/// The numbers of a log: what its gate counts, and how many copies it has if these are known.
+#[derive(Drop)]
+struct LogNumbers {
+    counts: Counts,
+    copies: Option<u64>,
+}
+
 /// What is known about a log before its text is made.
 #[derive(Drop)]
 struct Weighed {
-    counts: Counts,
+    numbers: LogNumbers,
     gate: Value,
-    copies: Option<u64>,
 }
 
 /// Returns the counts of the results that are written, without the copies if they are known, and the gate.
@@ -105,7 +112,7 @@ fn weigh<R: Threads + Sync>(
     options: &Options,
 ) -> Result<Weighed, AllocError>
     ensures counts { IfOk result (λ made. (s : Stand) (l : Grade) (b : Bool)
-        → count_at made.counts s l b
+        → count_at made.numbers.counts s l b
         ≡ tallied prepared.now.current.drafts.items
         (counted_if (current_marks prepared.now.copies) prepared.now.current.states.items)
         s l b
@@ -114,10 +121,10 @@ fn weigh<R: Threads + Sync>(
         s l b) }
     ensures gate { IfOk result (λ made. view made.gate
         ≡ naming (places_by prepared.now.copies prepared.now.current prepared.now.baseline)
-        (gate_of (count_at made.counts) options.now.policy
+        (gate_of (count_at made.numbers.counts) options.now.policy
         prepared.now.without prepared.now.unused)) }
     ensures whole { IfOk result (λ made. has_float (view made.gate) ≡ false) }
-    ensures copies { IfOk result (λ made. made.copies ≡ option_map length
+    ensures copies { IfOk result (λ made. made.numbers.copies ≡ option_map length
         (places_by prepared.now.copies prepared.now.current prepared.now.baseline)) }
 {
     let Prepared {
@@ -132,11 +139,36 @@ fn weigh<R: Threads + Sync>(
     let places = list_places(alloc, current, baseline, copies)?;
     let gate = named_gate(alloc, &counts, &options.policy, *without, *unused, &places)?;
     let copies = count_places(&places);
-    Ok(Weighed {
-        counts,
-        gate,
-        copies,
-    })
+    let numbers = LogNumbers { counts, copies };
+    Ok(Weighed { numbers, gate })
+}
+
+/// The facts of a merge: those of its log and these numbers, findings and parts of later merges.
+fn facts_of<'m>(
+    numbers: &'m LogNumbers,
+    without: u32,
+    unused: u32,
+    expired: u32,
+    findings: &'m Vec<Finding>,
+    life: &'m Life,
+) -> Facts<'m>
+    ensures counts { result.counts.now ≡ numbers.now.counts }
+    ensures without { result.without ≡ without }
+    ensures unused { result.unused ≡ unused }
+    ensures expired { result.expired ≡ expired }
+    ensures findings { result.findings.now ≡ findings.now }
+    ensures copies { result.copies ≡ numbers.now.copies }
+    ensures life { result.life.now ≡ life.now }
+{
+    Facts {
+        counts: &numbers.counts,
+        without,
+        unused,
+        expired,
+        findings,
+        copies: numbers.copies,
+        life,
+    }
 }
 
 /// Returns the log of what was prepared, with its gate, with what is for later merges, and what `tell` returns for
@@ -163,12 +195,8 @@ pub(crate) fn write_log<
     ensures life { IfOk result (λ made. made.0.life ≡ prepared.life) }
     ensures told { IfOk result (λ made. IsMadeBy Tell.FnOnce tell made.0 (Ok made.1)) }
 {
-    let Weighed {
-        counts,
-        gate,
-        copies,
-    } = weigh(rt, alloc, &prepared, options)?;
-    let verdict = verdict(&counts, &options.policy);
+    let Weighed { numbers, gate } = weigh(rt, alloc, &prepared, options)?;
+    let verdict = verdict(&numbers.counts, &options.policy);
     let Prepared {
         current,
         baseline,
@@ -180,15 +208,7 @@ pub(crate) fn write_log<
         spent,
         ..
     } = prepared;
-    let facts = Facts {
-        counts: &counts,
-        without,
-        unused,
-        expired,
-        findings: &findings,
-        copies,
-        life: &life,
-    };
+    let facts = facts_of(&numbers, without, unused, expired, &findings, &life);
     let say = move || -> Result<B, AllocError>
         requires { Tell.IsAlwaysCallable tell }
         ensures { IsToldBy Tell.FnOnce tell facts.entry result }
@@ -199,13 +219,13 @@ pub(crate) fn write_log<
     let (text, told) = text_beside(rt, alloc, gate, current, baseline, say);
     let merged = Merged {
         log: Text::from_string(text?)?,
-        counts,
+        counts: numbers.counts,
         verdict,
         without,
         unused,
         expired,
         findings,
-        copies,
+        copies: numbers.copies,
         life,
     };
     Ok((merged, told?))

@@ -12,7 +12,7 @@ use Rattle.sarif_model.specs.declared.place.Place.{Place}
 use Rattle.sarif_model.specs.declared.record.Record.{Record}
 use Rattle.sarif_match.specs.contracts.numbers.ValueEq.TheImpl.Laws.{laws-law}
 use Rattle.sarif_match.specs.declared.numbers.Value.{Value}
-use Rattle.sarif_match.specs.declared.numbers.Value.TheVariants.{Text as a_text, Place as a_place, Message as a_message, Members as some_members}
+use Rattle.sarif_match.specs.declared.numbers.Value.TheVariants.{Text as a_text, Place as a_place, Message as a_message, Members as some_members, Snippet as a_snippet}
 use Rattle.sarif_match.specs.Internal.Numbers.{AreApart, AreShort, AreShortMembers, Grows, HasNumber, IsNumbered, IsShort, IsShortSnippet, Numbers, lent, members_as, message_as, place_as, same_value}
 use Rattle.sarif_evidence.proofs.EqualLemmas.{message_refl, pairs_refl, place_refl, text_refl}
 
@@ -151,7 +151,7 @@ module _ {S : Type 0} where
 
     pub snippet_later : (text short : Option (List ℕ)) → IsShortSnippet before text short → IsShortSnippet after text short
     snippet_later None short is = is
-    snippet_later (Some text) short is = numbered_later (a_text (lent text)) Some short is
+    snippet_later (Some text) short is = numbered_later (a_snippet (lent text)) Some short is
 
     short_later : (r s : Record) → IsShort before r s → IsShort after r s
     short_later r s is = record {

@@ -9,7 +9,7 @@ use Rattle.sarif_model.specs.declared.message.Message.{Message}
 use Rattle.sarif_model.specs.declared.place.Place.{Place}
 use Rattle.sarif_model.specs.declared.record.Record.{Record}
 use Rattle.sarif_match.specs.declared.numbers.Value.{Value}
-use Rattle.sarif_match.specs.declared.numbers.Value.TheVariants.{Text as a_text, Place as a_place, Message as a_message, Members as some_members}
+use Rattle.sarif_match.specs.declared.numbers.Value.TheVariants.{Text as a_text, Place as a_place, Message as a_message, Members as some_members, Snippet as a_snippet}
 use Rattle.sarif_match.specs.declared.tier.Tier.{Tier}
 use Rattle.sarif_match.specs.declared.tier.Tier.TheVariants.{Guid, Same, SameText, FingerprintHere, Fingerprint, PartialHere, PartialMoved, PlaceText, Place as AtPlace, PlaceLeft}
 use Rattle.sarif_match.specs.Key.{group_of, key_of, value_of, without_guid}
@@ -37,6 +37,9 @@ module _ {S : Type 0} (numbers : Numbers S) where
   abbrev short_text : List ℕ → List ℕ
   short_text text = code (a_text (lent text))
 
+  abbrev short_snippet : List ℕ → List ℕ
+  short_snippet text = code (a_snippet (lent text))
+
   abbrev short_place : Place → Place
   short_place place = place_as (code (a_place (lent place)))
 
@@ -56,10 +59,10 @@ module _ {S : Type 0} (numbers : Numbers S) where
   short_parts (partial_here_parts t r p m) = partial_here_parts (short_text t) (short_text r) (short_place p) (short_members m)
   short_parts (partial_moved_parts t r m) = partial_moved_parts (short_text t) (short_text r) (short_members m)
   short_parts (place_parts t r p m) = place_parts (short_text t) (short_text r) (short_place p) (short_message m)
-  short_parts (region_parts g f m s l) = region_parts (short_group g) f (short_members m) (option_map short_text s) l
-  short_parts (text_parts g f m s) = text_parts (short_group g) f (short_members m) (short_text s)
+  short_parts (region_parts g f m s l) = region_parts (short_group g) f (short_members m) (option_map short_snippet s) l
+  short_parts (text_parts g f m s) = text_parts (short_group g) f (short_members m) (short_snippet s)
   short_parts (fingerprint_here_parts g n v) = fingerprint_here_parts (short_group g) n v
-  short_parts (place_text_parts g s) = place_text_parts (short_group g) (short_text s)
+  short_parts (place_text_parts g s) = place_text_parts (short_group g) (short_snippet s)
   short_parts (place_left_parts g) = place_left_parts (short_group g)
 
   -- ---- what has a number
@@ -70,13 +73,16 @@ module _ {S : Type 0} (numbers : Numbers S) where
   abbrev KnownText : List ℕ → Type 0
   KnownText text = Known (a_text (lent text))
 
+  abbrev KnownCode : List ℕ → Type 0
+  KnownCode text = Known (a_snippet (lent text))
+
   abbrev KnownMembers : List (List ℕ × List ℕ) → Type 0
   KnownMembers [] = Unit {0}
   KnownMembers (m ∷ ms) = Known (some_members (lent (m ∷ ms)))
 
   abbrev KnownSnippet : Option (List ℕ) → Type 0
   KnownSnippet None = Unit {0}
-  KnownSnippet (Some text) = KnownText text
+  KnownSnippet (Some text) = KnownCode text
 
   record KnownGroup (g : Group) : Type 0 where
     tool : KnownText g.tool
@@ -91,9 +97,9 @@ module _ {S : Type 0} (numbers : Numbers S) where
   KnownParts (partial_moved_parts t r m) = KnownText t × KnownText r × KnownMembers m
   KnownParts (place_parts t r p m) = KnownText t × KnownText r × Known (a_place (lent p)) × Known (a_message (lent m))
   KnownParts (region_parts g f m s l) = KnownGroup g × KnownMembers m × KnownSnippet s
-  KnownParts (text_parts g f m s) = KnownGroup g × KnownMembers m × KnownText s
+  KnownParts (text_parts g f m s) = KnownGroup g × KnownMembers m × KnownCode s
   KnownParts (fingerprint_here_parts g n v) = KnownGroup g
-  KnownParts (place_text_parts g s) = KnownGroup g × KnownText s
+  KnownParts (place_text_parts g s) = KnownGroup g × KnownCode s
   KnownParts (place_left_parts g) = KnownGroup g
 
   -- ---- equal numbers are those of equal values
@@ -108,6 +114,10 @@ module _ {S : Type 0} (numbers : Numbers S) where
     text_back : (a b : List ℕ) → KnownText a → KnownText b → bytes_eq (short_text a) (short_text b) ≡ true → a ≡ b
     text_back a b here there e =
         same_text a b (one_value (a_text (lent a)) (a_text (lent b)) here there (same_text (short_text a) (short_text b) e))
+
+    code_back : (a b : List ℕ) → KnownCode a → KnownCode b → bytes_eq (short_snippet a) (short_snippet b) ≡ true → a ≡ b
+    code_back a b here there e =
+        same_text a b (one_value (a_snippet (lent a)) (a_snippet (lent b)) here there (same_text (short_snippet a) (short_snippet b) e))
 
     place_back : (a b : Place) → Known (a_place (lent a)) → Known (a_place (lent b)) → place_eq (short_place a) (short_place b) ≡ true → a ≡ b
     place_back a b here there e =
@@ -134,11 +144,11 @@ module _ {S : Type 0} (numbers : Numbers S) where
         (one_value (some_members (lent (m ∷ a))) (some_members (lent (n ∷ b))) here there (same_text x y one.0))
 
     snippet_back : (a b : Option (List ℕ)) → KnownSnippet a → KnownSnippet b
-        → option_eq bytes_eq (option_map short_text a) (option_map short_text b) ≡ true → a ≡ b
+        → option_eq bytes_eq (option_map short_snippet a) (option_map short_snippet b) ≡ true → a ≡ b
     snippet_back None None here there e = refl
     snippet_back None (Some b) here there e = absurd (false≢true e)
     snippet_back (Some a) None here there e = absurd (false≢true e)
-    snippet_back (Some a) (Some b) here there e = ap Some (text_back a b here there e)
+    snippet_back (Some a) (Some b) here there e = ap Some (code_back a b here there e)
 
     -- tool, rule and place
     module _ (t t' r r' : List ℕ) (p p' : Place) (rest : Bool) (kt : KnownText t) (kt' : KnownText t') (kr : KnownText r) (kr' : KnownText r')
@@ -190,12 +200,12 @@ module _ {S : Type 0} (numbers : Numbers S) where
     parts_back (region_parts g f m s l) (region_parts g' f' m' s' l') k k' e =
         let first = and_parts (group_eq (short_group g) (short_group g'))
         (pairs_eq f f' && (pairs_eq (short_members m) (short_members m')
-        && (option_eq bytes_eq (option_map short_text s) (option_map short_text s') && region_eq l l'))) e in
+        && (option_eq bytes_eq (option_map short_snippet s) (option_map short_snippet s') && region_eq l l'))) e in
         let second = and_parts (pairs_eq f f') (pairs_eq (short_members m) (short_members m')
-        && (option_eq bytes_eq (option_map short_text s) (option_map short_text s') && region_eq l l')) first.1 in
+        && (option_eq bytes_eq (option_map short_snippet s) (option_map short_snippet s') && region_eq l l')) first.1 in
         let third = and_parts (pairs_eq (short_members m) (short_members m'))
-        (option_eq bytes_eq (option_map short_text s) (option_map short_text s') && region_eq l l') second.1 in
-        let last = and_parts (option_eq bytes_eq (option_map short_text s) (option_map short_text s')) (region_eq l l') third.1 in
+        (option_eq bytes_eq (option_map short_snippet s) (option_map short_snippet s') && region_eq l l') second.1 in
+        let last = and_parts (option_eq bytes_eq (option_map short_snippet s) (option_map short_snippet s')) (region_eq l l') third.1 in
         let group : g ≡ g' = group_back g g' k.0 k'.0 first.0 in
         let full : f ≡ f' = pairs_same f f' second.0 in
         let partial : m ≡ m' = members_back m m' k.1 k'.1 third.0 in
@@ -204,13 +214,13 @@ module _ {S : Type 0} (numbers : Numbers S) where
         λ i. region_parts (group i) (full i) (partial i) (snippet i) (region i)
     parts_back (text_parts g f m s) (text_parts g' f' m' s') k k' e =
         let first = and_parts (group_eq (short_group g) (short_group g'))
-        (pairs_eq f f' && (pairs_eq (short_members m) (short_members m') && bytes_eq (short_text s) (short_text s'))) e in
-        let second = and_parts (pairs_eq f f') (pairs_eq (short_members m) (short_members m') && bytes_eq (short_text s) (short_text s')) first.1 in
-        let last = and_parts (pairs_eq (short_members m) (short_members m')) (bytes_eq (short_text s) (short_text s')) second.1 in
+        (pairs_eq f f' && (pairs_eq (short_members m) (short_members m') && bytes_eq (short_snippet s) (short_snippet s'))) e in
+        let second = and_parts (pairs_eq f f') (pairs_eq (short_members m) (short_members m') && bytes_eq (short_snippet s) (short_snippet s')) first.1 in
+        let last = and_parts (pairs_eq (short_members m) (short_members m')) (bytes_eq (short_snippet s) (short_snippet s')) second.1 in
         let group : g ≡ g' = group_back g g' k.0 k'.0 first.0 in
         let full : f ≡ f' = pairs_same f f' second.0 in
         let partial : m ≡ m' = members_back m m' k.1 k'.1 last.0 in
-        let snippet : s ≡ s' = text_back s s' k.2 k'.2 last.1 in
+        let snippet : s ≡ s' = code_back s s' k.2 k'.2 last.1 in
         λ i. text_parts (group i) (full i) (partial i) (snippet i)
     parts_back (fingerprint_here_parts g n v) (fingerprint_here_parts g' n' v') k k' e =
         let both = and_parts (group_eq (short_group g) (short_group g')) (bytes_eq n n' && bytes_eq v v') e in
@@ -220,9 +230,9 @@ module _ {S : Type 0} (numbers : Numbers S) where
         let value : v ≡ v' = same_text v v' rest.1 in
         λ i. fingerprint_here_parts (group i) (name i) (value i)
     parts_back (place_text_parts g s) (place_text_parts g' s') k k' e =
-        let both = and_parts (group_eq (short_group g) (short_group g')) (bytes_eq (short_text s) (short_text s')) e in
+        let both = and_parts (group_eq (short_group g) (short_group g')) (bytes_eq (short_snippet s) (short_snippet s')) e in
         let group : g ≡ g' = group_back g g' k.0 k'.0 both.0 in
-        let snippet : s ≡ s' = text_back s s' k.1 k'.1 both.1 in
+        let snippet : s ≡ s' = code_back s s' k.1 k'.1 both.1 in
         λ i. place_text_parts (group i) (snippet i)
     parts_back (place_left_parts g) (place_left_parts g') k k' e =
         let group : g ≡ g' = group_back g g' k k' e in
@@ -253,11 +263,11 @@ module _ {S : Type 0} (numbers : Numbers S) where
   members_are (m ∷ ms) short is = (made (some_members (lent (m ∷ ms))) members_as short is, (is.0, is.1))
 
   snippet_is : (text short : Option (List ℕ)) → IsShortSnippet numbers text short
-      → (short ≡ option_map (short_text numbers) text) × KnownSnippet numbers text
+      → (short ≡ option_map (short_snippet numbers) text) × KnownSnippet numbers text
   snippet_is None short is = (is, tt)
-  snippet_is (Some text) short is = (made (a_text (lent text)) Some short is, (is.0, is.1))
+  snippet_is (Some text) short is = (made (a_snippet (lent text)) Some short is, (is.0, is.1))
 
-  -- the short record of r; kind, level, `held` and `spent` are those of s
+  -- the short record of r; kind, level, `held` and `admitted` are those of s
   abbrev shortened : Record → Record → Record
   shortened r s = record {
     tool = short_text numbers r.tool;
@@ -271,8 +281,8 @@ module _ {S : Type 0} (numbers : Numbers S) where
     partial = short_members numbers r.partial;
     held = s.held;
     region = r.region;
-    snippet = option_map (short_text numbers) r.snippet;
-    spent = s.spent;
+    snippet = option_map (short_snippet numbers) r.snippet;
+    admitted = s.admitted;
   }
 
   shortened_is : (r s : Record) → IsShort numbers r s → s ≡ shortened r s
@@ -282,7 +292,7 @@ module _ {S : Type 0} (numbers : Numbers S) where
       let message : s.message ≡ short_message numbers r.message = made (a_message (lent r.message)) message_as s.message is.message in
       let place : s.place ≡ short_place numbers r.place = made (a_place (lent r.place)) place_as s.place is.place in
       let partial : s.partial ≡ short_members numbers r.partial = (members_are r.partial s.partial is.partial).0 in
-      let snippet : s.snippet ≡ option_map (short_text numbers) r.snippet = (snippet_is r.snippet s.snippet is.snippet).0 in
+      let snippet : s.snippet ≡ option_map (short_snippet numbers) r.snippet = (snippet_is r.snippet s.snippet is.snippet).0 in
       λ i. record {
         tool = tool i;
         rule_id = rule_id i;
@@ -296,7 +306,7 @@ module _ {S : Type 0} (numbers : Numbers S) where
         held = s.held;
         region = is.region i;
         snippet = snippet i;
-        spent = s.spent;
+        admitted = s.admitted;
       }
 
   record KnownRecord (r : Record) : Type 0 where
@@ -345,8 +355,8 @@ module _ {S : Type 0} (numbers : Numbers S) where
     short_r = shortened r s
 
     snippet_keys : (f g : List ℕ → KeyParts)
-        → ((text : List ℕ) → KnownText numbers text → (g (short_text numbers text) ≡ short_parts numbers (f text)) × KnownParts numbers (f text))
-        → (o : Option (List ℕ)) → KnownSnippet numbers o → AlikeKeys (option_map f o) (option_map g (option_map (short_text numbers) o))
+        → ((text : List ℕ) → KnownCode numbers text → (g (short_snippet numbers text) ≡ short_parts numbers (f text)) × KnownParts numbers (f text))
+        → (o : Option (List ℕ)) → KnownSnippet numbers o → AlikeKeys (option_map f o) (option_map g (option_map (short_snippet numbers) o))
     snippet_keys f g each None is = tt
     snippet_keys f g each (Some text) is = each text is
 
@@ -383,7 +393,7 @@ module _ {S : Type 0} (numbers : Numbers S) where
     alike_keys Same =
         unless_guid _ _
         (alike_mapped (λ l. region_parts (group_of r) r.full r.partial r.snippet l)
-        (λ l. region_parts (short_group numbers (group_of r)) r.full (short_members numbers r.partial) (option_map (short_text numbers) r.snippet) l)
+        (λ l. region_parts (short_group numbers (group_of r)) r.full (short_members numbers r.partial) (option_map (short_snippet numbers) r.snippet) l)
         (λ l. (refl, (known.group, known.members, known.snippet))) r.region)
     alike_keys SameText =
         unless_guid _ _

@@ -129,7 +129,7 @@ pub fn match_all_in<S: BuildHasher + Copy>(
 }
 
 /// Matches by version 3: both lists as it sees them, in reverse order and as short records, and each number turned
-/// back.
+/// back. Without a baseline no result is read.
 fn match_from_end<S: BuildHasher + Copy>(
     alloc: Global,
     hasher: S,
@@ -140,6 +140,10 @@ fn match_from_end<S: BuildHasher + Copy>(
     requires baseline { length baseline.now ≤ most_results }
     ensures { IfOk result (λ matching. matching ≡ partners_in Three current.now baseline.now) }
 {
+    if baseline.is_empty() {
+        let progress = Progress::new(alloc, current.len(), baseline.len())?;
+        return Ok(Matching::of(progress));
+    }
     let tiers = finer_tiers(alloc, current, baseline)?;
     let short = short_from_end(alloc, hasher, current, baseline)?;
     let progress = match_tiers(alloc, hasher, &short.current, &short.baseline, &tiers)?;

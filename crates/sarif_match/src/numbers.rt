@@ -11,12 +11,14 @@ use std::hash::BuildHasher;
 /// A value of a result that is in the keys of several tiers.
 #[derive(Clone, Copy, PartialEq, Eq, Hash)]
 pub(crate) enum Value<'a> {
-    /// A tool, a rule or a snippet.
+    /// A tool or a rule.
     Text(&'a Text),
     Place(&'a Place),
     Message(&'a Message),
     /// Partial fingerprints.
     Members(&'a Pairs),
+    /// A snippet without white space. Each result has its own, so that its bytes are hashed and no digest is made.
+    Snippet(&'a str),
 }
 
 /// The number of a value, as text: that of an equal value, if the table has one, otherwise the next. Values are

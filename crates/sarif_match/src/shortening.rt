@@ -97,7 +97,7 @@ fn short_record<'a, S: BuildHasher + Copy>(
         held: Sequence::new(alloc),
         region: finding.region,
         snippet,
-        spent: Sequence::new(alloc),
+        admitted: Sequence::new(alloc),
     })
 }
 
@@ -164,7 +164,7 @@ fn short_snippet<'a, S: BuildHasher + Copy>(
     ensures grows { OnOk result (Grows numbers.old numbers.new) }
 {
     match snippet {
-        Some(text) => Ok(Some(number_of(alloc, numbers, Value::Text(text))?)),
+        Some(text) => Ok(Some(number_of(alloc, numbers, Value::Snippet(text.as_str()))?)),
         None => Ok(None),
     }
 }

@@ -85,7 +85,7 @@ own_key tier key r is = by_key (key_of r tier) is
     by_key None never = absurd (false≢true never)
     by_key (Some own) same = ap Some (parts_same own key same)
 
-some_at : (o : Option ℕ) → is_some o ≡ true → (m : ℕ) × (o ≡ Some m)
+pub some_at : (o : Option ℕ) → is_some o ≡ true → (m : ℕ) × (o ≡ Some m)
 some_at None is = absurd (false≢true is)
 some_at (Some m) is = (m, refl)
 
@@ -267,7 +267,7 @@ module _ (current baseline : List Record) (reordered : AreReordered current base
       by_test true = refl
       by_test false = refl
 
-  total_count : (test : Record → Bool) (n : ℕ) (rs : List Record) → count_left test (λ _. false) n rs ≡ count_by test rs
+  pub total_count : (test : Record → Bool) (n : ℕ) (rs : List Record) → count_left test (λ _. false) n rs ≡ count_by test rs
   total_count test n rs =
       let at : 0 + count_left test (λ _. false) n rs ≡ count_left test (λ _. false) n rs = omega arith in sym (count_on test n 0 rs ∙ at)
 

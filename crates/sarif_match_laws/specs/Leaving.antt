@@ -62,7 +62,7 @@ without_text r = record {
   held = r.held;
   region = None;
   snippet = None;
-  spent = r.spent;
+  admitted = r.admitted;
 }
 
 -- each result is as often in one list as in the other: as many of both pass any test

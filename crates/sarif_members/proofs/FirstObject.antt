@@ -4,7 +4,6 @@ use Rattle.serde_json.specs.Data.{Data}
 use Rattle.sarif_model.specs.declared.fault.Fault.{Fault}
 use Rattle.sarif_model.specs.declared.fault.Fault.TheVariants.{BadLocation}
 use Rattle.sarif_model.specs.Members.{◌>>=◌, text_at, object_at, elements_at, if_there, first_of, if_object}
-use Rattle.sarif_members.specs.declared.own_members.location.Location.{Location}
 use Rattle.sarif_members.specs.OwnMembers.{index_within, own_location}
 
 both_steps : {A B C : Type 0} (r : Result A Fault) (f : A → Result B Fault) (g : B → Result C Fault)

@@ -1,12 +1,11 @@
 -- A member of a node that is null, or another value; the elements of an array of nodes, and its first one.
-use Rattle.std.proofs.Common.{◌≡◌, ℕ, List, true, false, Option, Some, None, Result, Ok, Err, is_some, option_map, refl, sym, ap, ◌∙◌}
+use Rattle.std.proofs.Common.{◌≡◌, ℕ, List, true, false, Option, Some, None, Result, Ok, Err, is_some, refl, ap, ◌∙◌}
 use Rattle.std.specs.Prelude.{option_and_then}
-use Rattle.serde_json.specs.Data.{Data, null, boolean, number, string, array, object, Items, no_items, item}
+use Rattle.serde_json.specs.Data.{Data, null, boolean, number, string, array, object, Items}
 use Rattle.serde_json.specs.Find.{get, as_null, as_array}
-use Rattle.serde_json.specs.View.{items_of}
 use Rattle.json_parts.specs.Stripping.{stripped}
 use Rattle.sarif_model.specs.declared.fault.Fault.{Fault}
-use Rattle.sarif_model.specs.Members.{◌>>=◌, result_map, unless_null, elements, elements_of, or_wrong, first_of, if_object}
+use Rattle.sarif_model.specs.Members.{◌>>=◌, result_map, unless_null, elements_of, or_wrong, first_of, if_object}
 use Rattle.sarif_model.specs.Run.{elements_or_none}
 use Rattle.sarif_model.proofs.Elements.{items_back}
 

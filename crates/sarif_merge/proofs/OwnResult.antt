@@ -26,7 +26,7 @@ use Rattle.sarif_runs.specs.Judging.{faults_of_runs, first_bad, item_by, item_of
 use Rattle.sarif_runs.specs.declared.run_options.RecordOptions.{RecordOptions}
 use Rattle.sarif_runs.specs.Placed.{AreReadWith, Placed}
 use Rattle.sarif_results.specs.Drafts.{Listing}
-use Rattle.sarif_suppress.specs.Limited.{with_spent}
+use Rattle.sarif_suppress.specs.Limited.{with_admitted}
 use Rattle.sarif_log.specs.MergedRuns.{annotated_items, bare, merged_run, merged_runs, own_results, with_results, written, written_all}
 use Rattle.json_parts.specs.Without.{without}
 use Rattle.sarif_log.proofs.RunResults.{still_out, taken_out}
@@ -40,7 +40,7 @@ use Rattle.sarif_inputs.specs.Inputs.{Inputs, all_runs, all_sources, baseline_ru
 use Rattle.sarif_inputs.specs.SourceFaults.{source_faults}
 use Rattle.sarif_inputs.proofs.ReadFacts.{log_sides, read_alike}
 use Rattle.sarif_merge.specs.MergedLog.{current_of, file_given, limited_of, written_inputs}
-use Rattle.sarif_merge.specs.OwnResult.{IsResult, baseline_of, partner_at, number_among_all, run_at, spent_at, written_by, written_run}
+use Rattle.sarif_merge.specs.OwnResult.{IsResult, baseline_of, partner_at, number_among_all, run_at, admitted_at, written_by, written_run}
 
 -- ---- runs and results by their places
 
@@ -266,7 +266,7 @@ own_result inputs k seq none there =
     let alike = read_alike (reading_checks inputs) Log 0 inputs.logs in
     let own = record_at (record_options (reading_checks inputs)) now k seq sound logs alike there.0 there.1 in
     let r = own.0 in
-    let q = with_spent r (spent_at inputs (b + seq)) in
+    let q = with_admitted r (admitted_at inputs (b + seq)) in
     let s = state_in inputs.checks.matching r (partner_at inputs (b + seq)) in
     let in_runs : k < length runs = omega (arith, there.0, length-map now (λ p. p.run)) in
     let fits : b + c ≤ length rs = omega (arith, within_total runs k in_runs, records_of_logs now sound logs) in
@@ -275,7 +275,7 @@ own_result inputs k seq none there =
     let in_all : b + seq < length rs = omega (arith, fits, there.1) in
     let record_is : get_or (take c (drop b qs)) seq q ≡ q =
     part_at qs b c seq q there.1 ∙ limited_at_place (file_given inputs) rs (b + seq) r q in_all
-    ∙ ap (λ found. with_spent found (spent_at inputs (b + seq))) (own.2 r) in
+    ∙ ap (λ found. with_admitted found (admitted_at inputs (b + seq))) (own.2 r) in
     let state_is : get_or (take c (drop b ss)) seq s ≡ s =
     part_at ss b c seq s there.1 ∙ state_at inputs.checks.matching bs (partners_in inputs.checks.matching rs bs) 0 (b + seq) (b + seq) rs r s in_all (omega arith)
     ∙ ap (λ found. state_in inputs.checks.matching found (partner_at inputs (b + seq))) (own.2 r) in

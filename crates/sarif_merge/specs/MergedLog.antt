@@ -26,7 +26,7 @@ file_given inputs = file_in (file_or_none inputs.suppressions inputs.today)
 abbrev pub current_of : Inputs → List Record
 current_of inputs = records_of (input_runs inputs)
 
--- the records of all results of the logs, each with the entries of the suppression file that are used up before it
+-- the records of all results of the logs, each with the entries of the suppression file that admit it
 abbrev pub limited_of : Inputs → List Record
 limited_of inputs = limited_records (file_given inputs) (input_runs inputs)
 

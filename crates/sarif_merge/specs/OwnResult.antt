@@ -6,7 +6,7 @@ use Rattle.sarif_model.specs.Run.{results_of, results_total}
 use Rattle.sarif_evidence.specs.Evidence.{state_in}
 use Rattle.sarif_match.specs.Partners.{partners_in}
 use Rattle.sarif_runs.specs.Judging.{records_of, run_values}
-use Rattle.sarif_suppress.specs.Limited.{all_spent, with_spent}
+use Rattle.sarif_suppress.specs.Limited.{all_admitted, with_admitted}
 use Rattle.sarif_log.specs.MergedRuns.{written}
 use Rattle.sarif_log.specs.LogBy.{listing_of, partner_in}
 use Rattle.sarif_inputs.specs.Inputs.{Inputs, input_runs, baseline_runs}
@@ -38,14 +38,14 @@ partner_at inputs place =
     let partners = partners_in inputs.checks.matching (current_of inputs) (baseline_of inputs) in
     partner_in (baseline_of inputs) (slice_index_or partners place None)
 
--- the entries of the suppression file that are used up before the current result with that number
-abbrev pub spent_at : Inputs → ℕ → List ℕ
-spent_at inputs place =
-    slice_index_or (all_spent (file_given inputs) (current_of inputs)) place []
+-- the entries of the suppression file that admit the current result with that number
+abbrev pub admitted_at : Inputs → ℕ → List ℕ
+admitted_at inputs place =
+    slice_index_or (all_admitted (file_given inputs) (current_of inputs)) place []
 
 -- the current result with that number, as it is written: with the level of this record, the baseline state that
 -- follows from its match, and its own suppressions with those that the suppression file adds
 abbrev pub written_by : Inputs → Record → ℕ → Data → Data
 written_by inputs r place result =
-    written (listing_of (file_given inputs)) (with_spent r (spent_at inputs place))
+    written (listing_of (file_given inputs)) (with_admitted r (admitted_at inputs place))
     (state_in inputs.checks.matching r (partner_at inputs place)) result

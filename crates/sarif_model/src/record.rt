@@ -33,7 +33,7 @@ pub struct Record {
     pub region: Option<Region>,
     /// The text of the snippet of that region, if it was read.
     pub snippet: Option<Text>,
-    /// The numbers of the entries of the suppression file whose `max` is used up by results before this one. Empty if
-    /// there is none, and until the results are in order.
-    pub spent: Sequence<u32>,
+    /// The numbers of the entries of the suppression file with `max` that admit the result: it meets them, and it is
+    /// among the first results that do. Empty if there is none, and until the results are in order.
+    pub admitted: Sequence<u32>,
 }

@@ -1,5 +1,5 @@
 -- Lists of findings and of copies, without the results that are matched.
-use Rattle.std.proofs.Common.{◌≡◌, ◌+◌, suc, Bool, true, false, List, [], ◌∷◌, ◌++◌, map, length, refl, sym, ap, ◌∙◌, arith}
+use Rattle.std.proofs.Common.{◌≡◌, suc, Bool, true, false, List, [], ◌∷◌, length, refl, ap, arith}
 use Rattle.sarif_once.specs.Once.{marked, woven}
 use Rattle.sarif_read.specs.Unmarked.{unmarked}
 

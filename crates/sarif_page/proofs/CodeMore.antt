@@ -1,5 +1,5 @@
 -- The code of a row, character by character and line by line.
-use Rattle.std.specs.Prelude.{◌≡◌, ℕ, List, [], ◌∷◌, ◌++◌, length, chars, encode_utf8, flat_map, IsUtf8}
+use Rattle.std.specs.Prelude.{◌≡◌, ℕ, List, ◌++◌, length, chars, encode_utf8, flat_map, IsUtf8}
 use Rattle.std.proofs.Common.{sym, ap, ◌∙◌, append_assoc, append-nil}
 use Rattle.std.proofs.lemmas.Str.{chars_past_char}
 use Rattle.std.proofs.StrCases.{chars_of_empty}

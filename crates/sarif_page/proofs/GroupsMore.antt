@@ -1,8 +1,8 @@
 -- The rows of a file in groups, one group more.
-use Rattle.std.proofs.Common.{◌≡◌, ◌≤◌, ◌+◌, ℕ, zero, suc, Option, Some, None, List, [], ◌∷◌, ◌++◌, length, take, drop, flat_map, map, unwrap_or, if◌then◌else◌, refl, sym, ap, ◌∙◌, append-nil, append_assoc, arith}
+use Rattle.std.proofs.Common.{◌≡◌, ◌≤◌, ◌+◌, ℕ, zero, suc, Some, None, List, [], ◌∷◌, ◌++◌, length, take, drop, flat_map, unwrap_or, if◌then◌else◌, refl, sym, ap, ◌∙◌, append-nil, append_assoc, arith}
 use Rattle.std.specs.List.{filter}
 use Rattle.std.specs.Borrow.{Bor}
-use Rattle.std.proofs.lemmas.List.{length-map, length-drop, length-take, take-map, take_all, drop-map, map-append}
+use Rattle.std.proofs.lemmas.List.{length-map, length-drop, take-map, take_all, drop-map, map-append}
 use Rattle.sarif_findings.specs.declared.finding.Finding.{Finding}
 use Rattle.sarif_page.specs.declared.by_file.Grouped.{Grouped}
 use Rattle.sarif_page.specs.declared.groups.Group.{Group as Made}

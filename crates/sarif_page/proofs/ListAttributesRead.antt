@@ -1,7 +1,7 @@
 -- A reader of a list of the page finds the attributes that are stated for its groups, its rows and its rules.
-use Rattle.std.proofs.Common.{◌≡◌, ◌+◌, ◌-◌, ◌/◌, ◌%◌, ◌<◌, ◌==◌, ◌++◌, ℕ, zero, suc, Bool, true, false, not, cond, List, [], ◌∷◌, Option, Some, None, codes, flat_map, length, take, drop, nat_lt, append-nil, append_assoc, if◌then◌else◌, refl, sym, ap, ap₂, subst, ◌∙◌, arith}
+use Rattle.std.proofs.Common.{◌≡◌, ◌+◌, ◌-◌, ◌/◌, ◌%◌, ◌==◌, ◌++◌, ℕ, zero, suc, Bool, true, false, not, cond, List, [], ◌∷◌, Option, Some, None, codes, flat_map, length, take, drop, nat_lt, append-nil, if◌then◌else◌, refl, sym, ap, ap₂, subst, ◌∙◌, arith}
 use Rattle.std.specs.Fmt.{decimal, digits, digits_onto, digit_glyph}
-use Rattle.std.specs.List.{list_any, sum_by}
+use Rattle.std.specs.List.{list_any}
 use Rattle.std.proofs.lemmas.Bool.{true≢false}
 use Rattle.std.proofs.lemmas.Bool.Decides.{nat_tests}
 use Rattle.std.proofs.lemmas.List.Sums.{sum_by-append, sum_by-cons}
@@ -13,12 +13,12 @@ use Rattle.sarif_model.specs.Level.{level_name}
 use Rattle.sarif_model.specs.State.{state_name}
 use Rattle.sarif_findings.specs.declared.finding.Finding.{Finding}
 use Rattle.sarif_shown.specs.Sentences.{counted}
-use Rattle.sarif_page.specs.HtmlAttributes.{Attribute, word_after, attributes_from, attributes_in, link_attributes, row_attributes}
+use Rattle.sarif_page.specs.HtmlAttributes.{Attribute, word_after, attributes_from, attributes_in, link_attributes}
 use Rattle.sarif_page.specs.HtmlFixed.{gone_line, index_begin, index_end}
-use Rattle.sarif_page.specs.HtmlGroups.{Part, number_of, level_text, level_if, beside, numbers_text, has_both, pair_if, pairs_with, pairs_in, has_data, span_text, part_text, open_word, group_begin, group_heading, group_html, groups_from, most_groups, more_results, more_begin, more_of, more_groups, list_html, section_begin, section_middle, section_of, section_if}
+use Rattle.sarif_page.specs.HtmlGroups.{Part, number_of, level_text, level_if, beside, numbers_text, has_both, pair_if, pairs_with, pairs_in, has_data, part_text, open_word, group_begin, group_heading, group_html, groups_from, most_groups, more_begin, more_of, more_groups, list_html, section_begin, section_middle, section_of, section_if}
 use Rattle.sarif_page.specs.HtmlIndex.{group_link, first_link, index_front, name_text, index_middle, index_row, index_rows, more_rules, index_of, index_html}
 use Rattle.sarif_page.specs.HtmlLaws.{quotes_in}
-use Rattle.sarif_page.specs.HtmlRow.{path_text, file_text, linked, rows_html}
+use Rattle.sarif_page.specs.HtmlRow.{path_text, file_text}
 use Rattle.sarif_page.specs.HtmlRows.{Group, most_grouped, groups_of, grouped_rows}
 use Rattle.sarif_page.specs.HtmlRules.{Rule, is_alike}
 use Rattle.sarif_page.specs.ListAttributes.{has_attribute, group_attributes, groups_attributes, more_attributes, list_attributes, first_attributes, index_row_attributes, index_attributes, heading_attributes, section_attributes}

@@ -1,6 +1,5 @@
 -- A reader of the page finds the attributes that are stated for it.
 use Rattle.std.proofs.Common.{◌≡◌, ◌+◌, ◌==◌, ◌++◌, ℕ, Bool, true, false, ◌&&◌, ◌||◌, List, [], ◌∷◌, codes, flat_map, length, map, nat_lt, append-nil, if◌then◌else◌, refl, sym, ap, ◌∙◌}
-use Rattle.std.specs.Fmt.{decimal}
 use Rattle.sarif_model.specs.declared.kinds.Level.{Level}
 use Rattle.sarif_model.specs.declared.kinds.Level.TheVariants.{NoLevel, Note, Warning, Error}
 use Rattle.sarif_model.specs.declared.kinds.State.{State}
@@ -14,18 +13,17 @@ use Rattle.sarif_counts.specs.declared.gate_verdict.Verdict.TheVariants.{Pass, F
 use Rattle.sarif_counts.specs.Hits.{Count, hits_of, verdict_of, verdict_name}
 use Rattle.sarif_shown.specs.CountRow.{numbers_of}
 use Rattle.sarif_shown.specs.declared.count_row.CountRow.{CountRow}
-use Rattle.sarif_findings.specs.declared.finding.Finding.{Finding}
 use Rattle.sarif_shown.specs.Facts.{Facts}
-use Rattle.sarif_shown.specs.Sentences.{accept_text, counted, entries_text, gate_end, gate_text, hits_text, more_text, runs_text, unshown_text}
+use Rattle.sarif_shown.specs.Sentences.{accept_text, entries_text, gate_end, gate_text, hits_text, more_text, runs_text, unshown_text}
 use Rattle.sarif_shown.specs.Unshown.{unshown_number}
-use Rattle.sarif_page.specs.HtmlAttributes.{Attribute, attributes_in}
+use Rattle.sarif_page.specs.HtmlAttributes.{attributes_in}
 use Rattle.sarif_page.specs.HtmlFixed.{page_begin, title_end, body_begin, counts_begin, counts_end, filters_begin, filters_end, header_end, nothing_reported, page_end}
-use Rattle.sarif_page.specs.HtmlReport.{page_head, heading, reason_line, links_to, links, strong, number_cell, level_cells, row_of, count_row, counts_table, mind, runs_line, entries_line, minds, levels_in, states_in, box, group_of, boxes, filters_by, filters_of, more_line, nothing_line, rest_line, hits_part, others_part, sections, unshown_line, results_of, how, accept_line, top_of, page_of, html_of}
+use Rattle.sarif_page.specs.HtmlReport.{page_head, heading, reason_line, links_to, links, strong, number_cell, level_cells, count_row, counts_table, mind, minds, levels_in, states_in, box, boxes, filters_by, filters_of, more_line, rest_line, hits_part, others_part, sections, unshown_line, results_of, how, accept_line, top_of, page_of, html_of}
 use Rattle.sarif_page.specs.HtmlRows.{Tables, tables_of, without_row}
 use Rattle.sarif_page.specs.HtmlStyle.{style, style_top, style_groups, style_rows, style_filters, style_narrow, style_print}
-use Rattle.sarif_page.specs.HtmlWords.{listed_if, listed_states, joint, joined, levels_from, hit_is, reason, hits_heading, others_text}
+use Rattle.sarif_page.specs.HtmlWords.{listed_states, joint, joined, levels_from, hit_is, reason, hits_heading, others_text}
 use Rattle.sarif_page.specs.PageAttributes.{of_class, mind_attributes, top_attributes, links_attributes, number_attributes, count_attributes, counts_attributes, box_attributes, boxes_attributes, filters_attributes, rest_attributes, results_attributes, accept_attributes, page_attributes_by, page_attributes}
-use Rattle.sarif_page.proofs.AttributesRead.{Moves, Reads, then_reads, reads_to, outside}
+use Rattle.sarif_page.proofs.AttributesRead.{Reads, then_reads, reads_to, outside}
 use Rattle.sarif_page.proofs.ListAttributesRead.{Silent, quiet, none, both, either, number_quiet, counted_quiet, level_named, state_named, after_silent, then_silent, either_reads, attribute, attribute_after, fixed_reads, section_reads}
 
 -- ---- sentences

@@ -10,7 +10,6 @@ use Rattle.sarif_options.specs.declared.policy.Policy.{Policy}
 use Rattle.sarif_options.specs.Policy.{are_hits}
 use Rattle.sarif_counts.specs.declared.gate_verdict.Verdict.{Verdict}
 use Rattle.sarif_counts.specs.Hits.{hits_of, verdict_of, verdict_name}
-use Rattle.sarif_findings.specs.declared.finding.Finding.{Finding}
 use Rattle.sarif_shown.specs.Facts.{Facts}
 use Rattle.sarif_shown.specs.Unshown.{unshown_number}
 use Rattle.sarif_page.specs.HtmlAttributes.{Attribute, attributes_in}

@@ -7,7 +7,7 @@ use Rattle.sarif_copies.specs.Copies.{copies_of}
 use Rattle.sarif_entries.specs.File.{File}
 use Rattle.sarif_log.specs.Internal.Texts.{present_results}
 use Rattle.sarif_log.specs.LogBy.{limited_records, listing_of}
-use Rattle.sarif_log.proofs.Limits.{all_spent_long}
+use Rattle.sarif_log.proofs.Limits.{all_admitted_long}
 use Rattle.sarif_log.proofs.Sides.{drafts_long, records_present, results_long}
 use Rattle.sarif_model.specs.declared.record.Record.{Record}
 use Rattle.sarif_model.specs.Run.{results_of, results_total}
@@ -25,7 +25,7 @@ use Rattle.sarif_results.specs.declared.draft.Draft.{Draft}
 use Rattle.sarif_results.specs.declared.outcome.Outcome.{Outcome}
 use Rattle.sarif_results.proofs.JudgedCounts.{records_of_logs}
 use Rattle.sarif_results.proofs.OutcomeItems.{all_items}
-use Rattle.sarif_suppress.specs.Limited.{all_spent, limited}
+use Rattle.sarif_suppress.specs.Limited.{all_admitted, limited}
 use Rattle.sarif_runs.specs.declared.item.Item.{Item}
 use Rattle.sarif_runs.specs.declared.item.Item.TheVariants.{Sound, Bad, Skipped}
 use Rattle.sarif_runs.specs.declared.spots.Spot.{Spot}
@@ -37,7 +37,7 @@ use Rattle.sarif_prepare.specs.Internal.Baselines.{baseline_drafts, spots_with_r
 use Rattle.sarif_prepare.specs.Internal.Halves.{drafts_in, with_draft}
 use Rattle.sarif_prepare.specs.Internal.Leftover.{found_at}
 use Rattle.sarif_prepare.specs.Internal.Limiting.{drafts_of, AreChanges, AreDraftsOf}
-use Rattle.sarif_prepare.specs.Once.{findings_only, limited_once, spent_once}
+use Rattle.sarif_prepare.specs.Once.{findings_only, limited_once, admitted_once}
 use Rattle.sarif_prepare.specs.declared.changes.Changes.{Changes}
 use Rattle.sarif_prepare.proofs.Limits.{changes_made, drafts_left, drafts_unmarked, each_long, once_left, once_long}
 use Rattle.sarif_prepare.specs.Internal.Telling.{own_results}
@@ -138,7 +138,7 @@ module _ (file : File) (ps : List Placed) (sound : faults_of_runs ps ≡ []) (lo
       let rs = records_of ps in
       let ms = copies_of rs in
       let ds = flat_map results_of (run_values ps) in
-      let many = each_long rs (spent_once file rs) (once_long file rs) in
+      let many = each_long rs (admitted_once file rs) (once_long file rs) in
       ap (λ qs. drafts_of file (limited file qs) (flat_map results_of (run_values (without_copies ps)))) (findings_left ps)
       ∙ ap (λ qs. drafts_of file qs (flat_map results_of (run_values (without_copies ps)))) (sym (once_left file rs))
       ∙ ap (drafts_of file (unmarked ms (limited_once file rs))) results_found
@@ -146,24 +146,24 @@ module _ (file : File) (ps : List Placed) (sound : faults_of_runs ps ≡ []) (lo
 
   -- what changes for the findings is what changes where they alone are counted
   pub found_changes : (changes : Changes) (again : List (Option Draft))
-      → changes.spent.items ≡ all_spent file (findings_only (records_of ps))
+      → changes.admitted.items ≡ all_admitted file (findings_only (records_of ps))
       → changes.drafts.items ≡ unmarked (copies_of (records_of ps)) again
-      → AreDraftsOf file (records_of ps) (spent_once file (records_of ps)) (flat_map results_of (run_values ps)) again
-      → AreChanges file (records_of (without_copies ps)) (all_spent file (records_of (without_copies ps)))
+      → AreDraftsOf file (records_of ps) (admitted_once file (records_of ps)) (flat_map results_of (run_values ps)) again
+      → AreChanges file (records_of (without_copies ps)) (all_admitted file (records_of (without_copies ps)))
       (flat_map results_of (run_values (without_copies ps))) changes
-  found_changes changes again spent_is drafts_are is =
+  found_changes changes again admitted_is drafts_are is =
       let rs = records_of ps in
       let ms = copies_of rs in
       let ds = flat_map results_of (run_values ps) in
       let found = findings_only rs in
-      let lists = spread_found [] rs (all_spent file found) (all_spent_long file found) in
-      let left : AreDraftsOf file found (all_spent file found) (unmarked ms ds) changes.drafts.items =
-      subst (AreDraftsOf file found (all_spent file found) (unmarked ms ds)) (sym drafts_are)
+      let lists = spread_found [] rs (all_admitted file found) (all_admitted_long file found) in
+      let left : AreDraftsOf file found (all_admitted file found) (unmarked ms ds) changes.drafts.items =
+      subst (AreDraftsOf file found (all_admitted file found) (unmarked ms ds)) (sym drafts_are)
       (subst (λ ls. AreDraftsOf file found ls (unmarked ms ds) (unmarked ms again)) lists
-      (drafts_left file ms rs (spent_once file rs) ds again (once_long file rs) as_many is)) in
-      subst (λ qs. AreChanges file qs (all_spent file qs) (flat_map results_of (run_values (without_copies ps))) changes) (sym (findings_left ps))
-      (subst (λ es. AreChanges file found (all_spent file found) es changes) (sym results_found)
-      (changes_made file found (all_spent file found) (unmarked ms ds) changes spent_is left (all_spent_long file found)))
+      (drafts_left file ms rs (admitted_once file rs) ds again (once_long file rs) as_many is)) in
+      subst (λ qs. AreChanges file qs (all_admitted file qs) (flat_map results_of (run_values (without_copies ps))) changes) (sym (findings_left ps))
+      (subst (λ es. AreChanges file found (all_admitted file found) es changes) (sym results_found)
+      (changes_made file found (all_admitted file found) (unmarked ms ds) changes admitted_is left (all_admitted_long file found)))
 
 -- ---- results of baselines
 

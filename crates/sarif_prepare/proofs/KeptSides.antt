@@ -40,7 +40,7 @@ use Rattle.sarif_log.specs.Internal.Texts.{present_results}
 use Rattle.sarif_prepare.specs.Internal.Together.{AreTogether, IsPaired}
 use Rattle.sarif_log.proofs.Limits.{limited_long}
 use Rattle.sarif_log.proofs.Sides.{states_long, taken_long}
-use Rattle.sarif_prepare.specs.Internal.Limiting.{unspent}
+use Rattle.sarif_prepare.specs.Internal.Limiting.{unadmitted}
 use Rattle.sarif_prepare.proofs.MatchedRecords.{limited_results, limited_total, matched_records}
 
 standings_long : (v : MatchingVersion) (bs : List Record) (ps : List (Option ℕ)) (n : ℕ) (cs : List Record)
@@ -71,7 +71,7 @@ matched_is : (checks : Checks) (file : File) (bytes : Option (List ℕ)) (policy
     → matched.matching ≡ checks.matching → matched.once ≡ checks.once → matched.regions ≡ knows_regions checks.matching checks.once
     → option_map (λ x. x.now) matched.chosen ≡ marks → IfSome marks (λ ms. length ms ≡ length (limited_records file now)) → misfit ≡ None
     → matched.current.runs.now ≡ c.runs.items → matched.current.records.now ≡ c.records.items → matched.current.drafts.now ≡ c.drafts.items
-    → matched.current.states.now ≡ states_of checks.matching (map unspent c.records.items) b.records.items
+    → matched.current.states.now ≡ states_of checks.matching (map unadmitted c.records.items) b.records.items
     → matched.current.standings.now ≡ p.standings.items
     → matched.before.runs.now ≡ b.runs.items → matched.before.counts.now ≡ b.counts.items → matched.before.records.now ≡ b.records.items
     → matched.before.taken.now ≡ p.taken.items
@@ -125,7 +125,7 @@ pub matched_chosen : (checks : Checks) (file : File) (bytes : Option (List ℕ))
     → option_map (λ x. x.now) matched.chosen ≡ (chosen_merge checks file bytes policy choice now before).chosen
     → (chosen_merge checks file bytes policy choice now before).misfit ≡ None
     → matched.current.runs.now ≡ c.runs.items → matched.current.records.now ≡ c.records.items → matched.current.drafts.now ≡ c.drafts.items
-    → matched.current.states.now ≡ states_of checks.matching (map unspent c.records.items) b.records.items
+    → matched.current.states.now ≡ states_of checks.matching (map unadmitted c.records.items) b.records.items
     → matched.current.standings.now ≡ p.standings.items
     → matched.before.runs.now ≡ b.runs.items → matched.before.counts.now ≡ b.counts.items → matched.before.records.now ≡ b.records.items
     → matched.before.taken.now ≡ p.taken.items

@@ -1,32 +1,26 @@
--- What entries that are used up change for results.
-use Rattle.std.proofs.Common.{◌≡◌, ℕ, zero, suc, ◌+◌, Bool, true, false, ◌&&◌, not, List, [], ◌∷◌, ◌++◌, ◌<◌, map, length, take, drop, get_or, Option, Bor, append_assoc, Some, None, refl, sym, ap, ◌∙◌, arith}
-use Rattle.std.specs.Prelude.{is_none, nat_le, slice_index_or}
-use Rattle.std.specs.List.{AllByRecursion, list_all}
-use Rattle.std.specs.Option.{option_map_or}
-use Rattle.std.proofs.lemmas.Bool.{and_parts}
-use Rattle.std.proofs.lemmas.List.{drop_more, get_or-map, length-map, take_more}
+-- What the entries with `max` that admit results change for them.
+use Rattle.std.proofs.Common.{◌≡◌, ℕ, zero, suc, ◌+◌, Bool, true, false, List, [], ◌∷◌, ◌++◌, ◌<◌, map, length, drop, get_or, Option, append_assoc, Some, None, refl, sym, ap, ◌∙◌, arith}
+use Rattle.std.specs.Prelude.{slice_index_or}
+use Rattle.std.specs.List.{AllByRecursion}
+use Rattle.std.proofs.lemmas.List.{drop_more}
 use Rattle.serde_json.specs.Data.{Data}
 use Rattle.sarif_copies.specs.Copies.{copies_of, numbers_of, spread}
-use Rattle.sarif_entries.specs.declared.entry.Entry.{Entry}
-use Rattle.sarif_entries.specs.declared.limit.Limit.{Limit}
 use Rattle.sarif_entries.specs.File.{File}
 use Rattle.sarif_entries.specs.Matching.{is_met}
-use Rattle.sarif_filing.specs.Numbers.{numbers_from}
 use Rattle.sarif_log.specs.LogBy.{listing_of}
-use Rattle.sarif_log.proofs.Limits.{all_spent_long}
+use Rattle.sarif_log.proofs.Limits.{all_admitted_long}
 use Rattle.sarif_model.specs.declared.record.Record.{Record}
 use Rattle.sarif_once.specs.Once.{marked}
 use Rattle.sarif_once.proofs.Spread.{spread_found, spread_long}
 use Rattle.sarif_prepare.specs.declared.changes.Changes.{Changes}
-use Rattle.sarif_prepare.specs.Internal.Limiting.{draft_again, draft_of, drafts_again, drafts_of, put_draft, put_drafts, put_each, put_spent, unspent, AreChanges, AreDraftsOf}
-use Rattle.sarif_prepare.specs.Once.{findings_only, limited_once, spent_once, with_each}
+use Rattle.sarif_prepare.specs.Internal.Limiting.{draft_again, draft_of, drafts_again, drafts_of, put_draft, put_drafts, put_each, put_admitted, unadmitted, AreChanges, AreDraftsOf}
+use Rattle.sarif_prepare.specs.Once.{findings_only, limited_once, admitted_once, with_each}
 use Rattle.sarif_read.specs.Unmarked.{unmarked}
 use Rattle.sarif_results.specs.Drafts.{applied_of, draft_by, drafts_by, members_in, Listing}
 use Rattle.sarif_results.specs.declared.draft.Draft.{Draft}
 use Rattle.sarif_suppress.specs.declared.suppressions.Applied.{Applied}
-use Rattle.sarif_suppress.specs.Internal.Left.{left_after}
-use Rattle.sarif_suppress.specs.Suppressing.{matching_numbers}
-use Rattle.sarif_suppress.specs.Limited.{all_spent, all_spent_after, is_unlimited, is_used_up_by, limited, limited_after, met_by, spent_after, with_spent, AreUnspent}
+use Rattle.sarif_suppress.specs.Limited.{all_admitted, all_admitted_after, is_unlimited, limited, limited_after, admitted_after, with_admitted, AreUnadmitted}
+use Rattle.sarif_suppress.proofs.LimitedResults.{none_admitted}
 
 -- ---- drafts
 
@@ -41,65 +35,47 @@ drafts_unmarked listed applied (false ∷ ms) (r ∷ rs) (d ∷ ds) same =
 
 -- ---- results with numbers of entries
 
-pub once_long : (file : File) (rs : List Record) → length (spent_once file rs) ≡ length rs
-once_long file rs = spread_long [] rs (all_spent file (findings_only rs))
+pub once_long : (file : File) (rs : List Record) → length (admitted_once file rs) ≡ length rs
+once_long file rs = spread_long [] rs (all_admitted file (findings_only rs))
 
 pub each_long : (rs : List Record) (lists : List (List ℕ)) → length lists ≡ length rs → length (with_each rs lists) ≡ length rs
 each_long [] lists same = refl
 each_long (r ∷ rs) [] same = absurd (omega (arith, same))
 each_long (r ∷ rs) (numbers ∷ lists) same = let rest = each_long rs lists (omega (arith, same)) in omega (arith, rest)
 
-limited_by : (file : File) (before rs : List Record) → limited_after file before rs ≡ with_each rs (all_spent_after file before rs)
+limited_by : (file : File) (before rs : List Record) → limited_after file before rs ≡ with_each rs (all_admitted_after file before rs)
 limited_by file before [] = refl
-limited_by file before (r ∷ rs) = ap (λ l. with_spent r (spent_after file before r) ∷ l) (limited_by file (before ++ r ∷ []) rs)
+limited_by file before (r ∷ rs) = ap (λ l. with_admitted r (admitted_after file before r) ∷ l) (limited_by file (before ++ r ∷ []) rs)
 
-pub limited_each : (file : File) (rs : List Record) → limited file rs ≡ with_each rs (all_spent file rs)
+pub limited_each : (file : File) (rs : List Record) → limited file rs ≡ with_each rs (all_admitted file rs)
 limited_each file rs = limited_by file [] rs
 
-pub same_unspent : (r : Record) → r.spent ≡ [] → with_spent r [] ≡ r
-same_unspent r none = ap (with_spent r) (sym none)
+pub same_unadmitted : (r : Record) → r.admitted ≡ [] → with_admitted r [] ≡ r
+same_unadmitted r none = ap (with_admitted r) (sym none)
 
 -- what a result is without them
-pub each_unspent : (rs : List Record) (lists : List (List ℕ)) → length lists ≡ length rs → map unspent (with_each rs lists) ≡ map unspent rs
-each_unspent [] lists same = refl
-each_unspent (r ∷ rs) [] same = absurd (omega (arith, same))
-each_unspent (r ∷ rs) (numbers ∷ lists) same = ap (λ l. unspent r ∷ l) (each_unspent rs lists (omega (arith, same)))
+pub each_unadmitted : (rs : List Record) (lists : List (List ℕ)) → length lists ≡ length rs → map unadmitted (with_each rs lists) ≡ map unadmitted rs
+each_unadmitted [] lists same = refl
+each_unadmitted (r ∷ rs) [] same = absurd (omega (arith, same))
+each_unadmitted (r ∷ rs) (numbers ∷ lists) same = ap (λ l. unadmitted r ∷ l) (each_unadmitted rs lists (omega (arith, same)))
 
-pub all_unspent : (rs : List Record) → AreUnspent rs → map unspent rs ≡ rs
-all_unspent [] none = refl
-all_unspent (r ∷ rs) none = ap (λ q. q ∷ map unspent rs) (same_unspent r none.0) ∙ ap (λ l. r ∷ l) (all_unspent rs none.1)
+pub all_unadmitted : (rs : List Record) → AreUnadmitted rs → map unadmitted rs ≡ rs
+all_unadmitted [] none = refl
+all_unadmitted (r ∷ rs) none = ap (λ q. q ∷ map unadmitted rs) (same_unadmitted r none.0) ∙ ap (λ l. r ∷ l) (all_unadmitted rs none.1)
 
-pub limited_unspent : (file : File) (rs : List Record) → AreUnspent rs → map unspent (limited file rs) ≡ rs
-limited_unspent file rs none =
-    ap (map unspent) (limited_each file rs) ∙ each_unspent rs (all_spent file rs) (all_spent_long file rs) ∙ all_unspent rs none
+pub limited_unadmitted : (file : File) (rs : List Record) → AreUnadmitted rs → map unadmitted (limited file rs) ≡ rs
+limited_unadmitted file rs none =
+    ap (map unadmitted) (limited_each file rs) ∙ each_unadmitted rs (all_admitted file rs) (all_admitted_long file rs) ∙ all_unadmitted rs none
 
 -- ---- no entry has a limit
-
-none_up : (test : Entry → Bool) (today : Option ℕ) (before : List Record) (n : ℕ) (es : List Entry) → list_all (λ (e : Entry). is_none e.limit) es ≡ true
-    → numbers_from (λ e. test e && is_used_up_by today before e) n es ≡ []
-none_up test today before n [] none = refl
-none_up test today before n (e ∷ es) none =
-    let both = and_parts (is_none e.limit) _ none in
-    let unused : is_used_up_by today before e ≡ false = by_limit e.limit both.0 in
-    let rest = none_up test today before (n + 1) es both.1 in
-    let no : (test e && is_used_up_by today before e) ≡ false = rw unused (and_false (test e)) in
-    rw no rest
-  where
-    by_limit : (limit : Option Limit) → is_none limit ≡ true → option_map_or (λ (l : Limit). nat_le l.most (met_by today e before)) limit false ≡ false
-    by_limit None is = refl
-    by_limit (Some limit) is = let never : ⊥ = cc in absurd never
-
-    and_false : (b : Bool) → (b && false) ≡ false
-    and_false true = refl
-    and_false false = refl
 
 abbrev AreNone : List (List ℕ) → Type 0
 AreNone lists = AllByRecursion (λ l. l ≡ []) lists
 
-none_after : (file : File) → is_unlimited file ≡ true → (before rs : List Record) → AreNone (all_spent_after file before rs)
+none_after : (file : File) → is_unlimited file ≡ true → (before rs : List Record) → AreNone (all_admitted_after file before rs)
 none_after file none before [] = tt
 none_after file none before (r ∷ rs) =
-    (none_up (λ e. is_met file.today e r) file.today before 0 file.entries none, none_after file none (before ++ r ∷ []) rs)
+    (none_admitted (λ e. is_met file.today e r) file.today before 0 file.entries none, none_after file none (before ++ r ∷ []) rs)
 
 none_at : (lists : List (List ℕ)) → AreNone lists → (n : ℕ) → slice_index_or lists n [] ≡ []
 none_at [] none n = refl
@@ -110,64 +86,64 @@ none_spread : (lists : List (List ℕ)) → AreNone lists → (numbers : List �
 none_spread lists none [] = tt
 none_spread lists none (n ∷ numbers) = (none_at lists none n, none_spread lists none numbers)
 
-each_none : (rs : List Record) (lists : List (List ℕ)) → AreUnspent rs → AreNone lists → length lists ≡ length rs → with_each rs lists ≡ rs
-each_none [] lists unspent none same = refl
-each_none (r ∷ rs) [] unspent none same = absurd (omega (arith, same))
-each_none (r ∷ rs) (numbers ∷ lists) unspent none same =
-    ap (λ q. q ∷ with_each rs lists) (ap (with_spent r) none.0 ∙ same_unspent r unspent.0)
-    ∙ ap (λ l. r ∷ l) (each_none rs lists unspent.1 none.1 (omega (arith, same)))
+each_none : (rs : List Record) (lists : List (List ℕ)) → AreUnadmitted rs → AreNone lists → length lists ≡ length rs → with_each rs lists ≡ rs
+each_none [] lists unadmitted none same = refl
+each_none (r ∷ rs) [] unadmitted none same = absurd (omega (arith, same))
+each_none (r ∷ rs) (numbers ∷ lists) unadmitted none same =
+    ap (λ q. q ∷ with_each rs lists) (ap (with_admitted r) none.0 ∙ same_unadmitted r unadmitted.0)
+    ∙ ap (λ l. r ∷ l) (each_none rs lists unadmitted.1 none.1 (omega (arith, same)))
 
 pub put_none : {X Y : Type 0} (put : X → Y → X) (xs : List X) → put_each put xs [] ≡ xs
 put_none put [] = refl
 put_none put (x ∷ xs) = refl
 
 nothing_changes : (file : File) (rs : List Record) (lists : List (List ℕ)) (ds : List Data) (changes : Changes)
-    → changes.spent.items ≡ [] → changes.drafts.items ≡ [] → with_each rs lists ≡ rs → AreChanges file rs lists ds changes
-nothing_changes file rs lists ds changes no_spent no_drafts same = record {
-  records = ap (put_spent rs) no_spent ∙ put_none with_spent rs ∙ sym same;
+    → changes.admitted.items ≡ [] → changes.drafts.items ≡ [] → with_each rs lists ≡ rs → AreChanges file rs lists ds changes
+nothing_changes file rs lists ds changes no_admitted no_drafts same = record {
+  records = ap (put_admitted rs) no_admitted ∙ put_none with_admitted rs ∙ sym same;
   drafts = ap (put_drafts (drafts_of file rs ds)) no_drafts ∙ put_none put_draft (drafts_of file rs ds) ∙ ap (λ qs. drafts_of file qs ds) (sym same);
 }
 
 -- nothing changes
-pub none_of_all : (file : File) (rs : List Record) (ds : List Data) (changes : Changes) → changes.spent.items ≡ [] → changes.drafts.items ≡ []
-    → is_unlimited file ≡ true → AreUnspent rs → AreChanges file rs (all_spent file rs) ds changes
-none_of_all file rs ds changes no_spent no_drafts none unspent =
-    nothing_changes file rs (all_spent file rs) ds changes no_spent no_drafts
-    (each_none rs (all_spent file rs) unspent (none_after file none [] rs) (all_spent_long file rs))
+pub none_of_all : (file : File) (rs : List Record) (ds : List Data) (changes : Changes) → changes.admitted.items ≡ [] → changes.drafts.items ≡ []
+    → is_unlimited file ≡ true → AreUnadmitted rs → AreChanges file rs (all_admitted file rs) ds changes
+none_of_all file rs ds changes no_admitted no_drafts none unadmitted =
+    nothing_changes file rs (all_admitted file rs) ds changes no_admitted no_drafts
+    (each_none rs (all_admitted file rs) unadmitted (none_after file none [] rs) (all_admitted_long file rs))
 
-once_none : (file : File) (rs : List Record) → is_unlimited file ≡ true → AreUnspent rs → limited_once file rs ≡ rs
-once_none file rs none unspent =
-    let nothing = none_spread (all_spent file (findings_only rs)) (none_after file none [] (findings_only rs)) (numbers_of rs) in
-    each_none rs (spent_once file rs) unspent nothing (once_long file rs)
+once_none : (file : File) (rs : List Record) → is_unlimited file ≡ true → AreUnadmitted rs → limited_once file rs ≡ rs
+once_none file rs none unadmitted =
+    let nothing = none_spread (all_admitted file (findings_only rs)) (none_after file none [] (findings_only rs)) (numbers_of rs) in
+    each_none rs (admitted_once file rs) unadmitted nothing (once_long file rs)
 
 -- no draft of a copy changes
 pub none_of_copies : (file : File) (ms : List Bool) (rs : List Record) (ds : List Data) (again : List (Option Draft)) → again ≡ []
-    → is_unlimited file ≡ true → AreUnspent rs
+    → is_unlimited file ≡ true → AreUnadmitted rs
     → put_drafts (marked ms (drafts_of file rs ds)) again ≡ marked ms (drafts_of file (limited_once file rs) ds)
-none_of_copies file ms rs ds again nothing none unspent =
+none_of_copies file ms rs ds again nothing none unadmitted =
     ap (put_drafts (marked ms (drafts_of file rs ds))) nothing ∙ put_none put_draft (marked ms (drafts_of file rs ds))
-    ∙ ap (λ qs. marked ms (drafts_of file qs ds)) (sym (once_none file rs none unspent))
+    ∙ ap (λ qs. marked ms (drafts_of file qs ds)) (sym (once_none file rs none unadmitted))
 
 -- ---- the changes that are made
 
-spent_put : (rs : List Record) (lists : List (List ℕ)) → length lists ≡ length rs → put_spent rs lists ≡ with_each rs lists
-spent_put [] lists same = refl
-spent_put (r ∷ rs) [] same = absurd (omega (arith, same))
-spent_put (r ∷ rs) (l ∷ lists) same = ap (λ qs. with_spent r l ∷ qs) (spent_put rs lists (omega (arith, same)))
+admitted_put : (rs : List Record) (lists : List (List ℕ)) → length lists ≡ length rs → put_admitted rs lists ≡ with_each rs lists
+admitted_put [] lists same = refl
+admitted_put (r ∷ rs) [] same = absurd (omega (arith, same))
+admitted_put (r ∷ rs) (l ∷ lists) same = ap (λ qs. with_admitted r l ∷ qs) (admitted_put rs lists (omega (arith, same)))
 
-draft_put : (file : File) (r : Record) (numbers : List ℕ) (d : Data) → r.spent ≡ []
-    → put_draft (draft_of file r d) (draft_again file r numbers d) ≡ draft_of file (with_spent r numbers) d
-draft_put file r [] d none = ap (λ q. draft_of file q d) (sym (same_unspent r none))
+draft_put : (file : File) (r : Record) (numbers : List ℕ) (d : Data) → r.admitted ≡ []
+    → put_draft (draft_of file r d) (draft_again file r numbers d) ≡ draft_of file (with_admitted r numbers) d
+draft_put file r [] d none = ap (λ q. draft_of file q d) (sym (same_unadmitted r none))
 draft_put file r (n ∷ ns) d none = refl
 
-pub drafts_put : (file : File) (rs : List Record) (lists : List (List ℕ)) (ds : List Data) → AreUnspent rs → length lists ≡ length rs → length ds ≡ length rs
+pub drafts_put : (file : File) (rs : List Record) (lists : List (List ℕ)) (ds : List Data) → AreUnadmitted rs → length lists ≡ length rs → length ds ≡ length rs
     → AreDraftsOf file rs lists ds (drafts_again file rs lists ds)
 drafts_put file [] lists ds none same_l same_d = refl
 drafts_put file (r ∷ rs) [] ds none same_l same_d = absurd (omega (arith, same_l))
 drafts_put file (r ∷ rs) (l ∷ lists) [] none same_l same_d = absurd (omega (arith, same_d))
 drafts_put file (r ∷ rs) (l ∷ lists) (d ∷ ds) none same_l same_d =
     ap (λ q. q ∷ put_drafts (drafts_of file rs ds) (drafts_again file rs lists ds)) (draft_put file r l d none.0)
-    ∙ ap (λ qs. draft_of file (with_spent r l) d ∷ qs) (drafts_put file rs lists ds none.1 (omega (arith, same_l)) (omega (arith, same_d)))
+    ∙ ap (λ qs. draft_of file (with_admitted r l) d ∷ qs) (drafts_put file rs lists ds none.1 (omega (arith, same_l)) (omega (arith, same_d)))
 
 pub again_long : (file : File) (rs : List Record) (lists : List (List ℕ)) (ds : List Data) → length lists ≡ length rs → length ds ≡ length rs
     → length (drafts_again file rs lists ds) ≡ length rs
@@ -178,55 +154,13 @@ again_long file (r ∷ rs) (l ∷ lists) (d ∷ ds) same_l same_d =
     let rest = again_long file rs lists ds (omega (arith, same_l)) (omega (arith, same_d)) in omega (arith, rest)
 
 pub changes_made : (file : File) (rs : List Record) (lists : List (List ℕ)) (ds : List Data) (changes : Changes)
-    → changes.spent.items ≡ lists → AreDraftsOf file rs lists ds changes.drafts.items → length lists ≡ length rs → AreChanges file rs lists ds changes
-changes_made file rs lists ds changes spent drafts same = record {
-  records = ap (put_spent rs) spent ∙ spent_put rs lists same;
+    → changes.admitted.items ≡ lists → AreDraftsOf file rs lists ds changes.drafts.items → length lists ≡ length rs → AreChanges file rs lists ds changes
+changes_made file rs lists ds changes admitted drafts same = record {
+  records = ap (put_admitted rs) admitted ∙ admitted_put rs lists same;
   drafts = drafts;
 }
 
 -- ---- results in turn
-
-unspent_at : (rs : List Record) (n : ℕ) (d : Record) → AreUnspent rs → n < length rs → (get_or rs n d).spent ≡ []
-unspent_at [] n d none within = absurd (omega (arith, within))
-unspent_at (r ∷ rs) zero d none within = none.0
-unspent_at (r ∷ rs) (suc n) d none within = unspent_at rs n d none.1 (omega (arith, within))
-
--- the numbers of the next result
-pub spent_next : (file : File) (rs : List Record) (drafts : List (Bor Draft)) (n : ℕ) (draft : Bor Draft) (old new : List (Option ℕ))
-    (lists more : List (List ℕ)) (spent : List ℕ) → n < length drafts → draft ≡ get_or drafts n draft → AreUnspent rs
-    → map (λ (d : Bor Draft). d.now.applied) drafts ≡ map (applied_of file) rs
-    → ((before : List Record) (r : Record) → old ≡ left_after file before → r.spent ≡ [] → draft.now.applied.entries ≡ matching_numbers file r
-    → spent ≡ spent_after file before r)
-    → ((before : List Record) (r : Record) → old ≡ left_after file before → r.spent ≡ [] → draft.now.applied.entries ≡ matching_numbers file r
-    → new ≡ left_after file (before ++ r ∷ []))
-    → more ≡ lists ++ spent ∷ [] → old ≡ left_after file (take n rs) → lists ++ all_spent_after file (take n rs) (drop n rs) ≡ all_spent file rs
-    → (new ≡ left_after file (take (n + 1) rs)) × (more ++ all_spent_after file (take (n + 1) rs) (drop (n + 1) rs) ≡ all_spent file rs)
-spent_next file [] drafts n draft old new lists more spent within is none are one counted pushed left held =
-    let many = length-map drafts (λ (d : Bor Draft). d.now.applied) in
-    let same = ap length are in
-    absurd (omega (arith, within, many, same))
-spent_next file (q ∷ qs) drafts n draft old new lists more spent within is none are one counted pushed left held =
-    let rs = q ∷ qs in
-    let f = λ (d : Bor Draft). d.now.applied in
-    let many = length-map drafts f in
-    let all = length-map rs (applied_of file) in
-    let same = ap length are in
-    let in_rs : n < length rs = omega (arith, within, many, all, same) in
-    let r = get_or rs n q in
-    let here : draft.now.applied ≡ applied_of file r =
-    ap f is ∙ sym (get_or-map f drafts n draft (f draft) within) ∙ ap (λ l. get_or l n (f draft)) are ∙ get_or-map (applied_of file) rs n q (f draft) in_rs in
-    let unused = unspent_at rs n q none in_rs in
-    let numbers = ap (λ (a : Applied). a.entries) here in
-    let taken : take (n + 1) rs ≡ take n rs ++ r ∷ [] = take_more rs n q in_rs in
-    let later = drop (n + 1) rs in (
-      counted (take n rs) r left unused numbers ∙ ap (left_after file) (sym taken),
-      ap (λ l. l ++ all_spent_after file (take (n + 1) rs) later) pushed
-          ∙ append_assoc lists (spent ∷ []) (all_spent_after file (take (n + 1) rs) later)
-          ∙ ap (λ l. lists ++ (l ∷ all_spent_after file (take (n + 1) rs) later)) (one (take n rs) r left unused numbers)
-          ∙ ap (λ b. lists ++ (spent_after file (take n rs) r ∷ all_spent_after file b later)) taken
-          ∙ ap (λ l. lists ++ all_spent_after file (take n rs) l) (sym (drop_more rs n q in_rs))
-          ∙ held,
-    )
 
 -- the draft of the next result
 pub again_next : (file : File) (rs : List Record) (lists : List (List ℕ)) (ds : List Data) (n : ℕ) (r dr : Record) (numbers dn : List ℕ) (d dd : Data)
@@ -272,7 +206,7 @@ each_unmarked [] rs lists same = refl
 each_unmarked (m ∷ ms) [] lists same = refl
 each_unmarked (m ∷ ms) (r ∷ rs) [] same = absurd (omega (arith, same))
 each_unmarked (true ∷ ms) (r ∷ rs) (l ∷ lists) same = each_unmarked ms rs lists (omega (arith, same))
-each_unmarked (false ∷ ms) (r ∷ rs) (l ∷ lists) same = ap (λ qs. with_spent r l ∷ qs) (each_unmarked ms rs lists (omega (arith, same)))
+each_unmarked (false ∷ ms) (r ∷ rs) (l ∷ lists) same = ap (λ qs. with_admitted r l ∷ qs) (each_unmarked ms rs lists (omega (arith, same)))
 
 -- the drafts of the others that are made again
 pub drafts_left : (file : File) (ms : List Bool) (rs : List Record) (lists : List (List ℕ)) (ds : List Data) (again : List (Option Draft))
@@ -296,6 +230,6 @@ drafts_of_copies file ms rs lists ds again is = put_marked put_draft ms (drafts_
 pub once_left : (file : File) (rs : List Record) → unmarked (copies_of rs) (limited_once file rs) ≡ limited file (findings_only rs)
 once_left file rs =
     let found = findings_only rs in
-    each_unmarked (copies_of rs) rs (spent_once file rs) (once_long file rs)
-    ∙ ap (with_each found) (spread_found [] rs (all_spent file found) (all_spent_long file found))
+    each_unmarked (copies_of rs) rs (admitted_once file rs) (once_long file rs)
+    ∙ ap (with_each found) (spread_found [] rs (all_admitted file found) (all_admitted_long file found))
     ∙ sym (limited_each file found)

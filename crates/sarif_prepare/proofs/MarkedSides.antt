@@ -41,7 +41,7 @@ use Rattle.sarif_prepare.specs.declared.pairing.Paired.{Paired}
 use Rattle.sarif_prepare.proofs.MarkedRuns.{marked_long, runs_marked, spread_marked}
 use Rattle.sarif_prepare.proofs.ToldRuns.{pairs_of_all}
 use Rattle.sarif_prepare.proofs.MatchedRecords.{limited_total, matched_records}
-use Rattle.sarif_prepare.specs.Internal.Limiting.{unspent}
+use Rattle.sarif_prepare.specs.Internal.Limiting.{unadmitted}
 use Rattle.sarif_log.proofs.Limits.{limited_long}
 use Rattle.sarif_prepare.proofs.ToldSides.{current_told}
 use Rattle.sarif_prepare.proofs.WrittenSides.{current_long}
@@ -68,7 +68,7 @@ module _ (v : MatchingVersion) (reporting : Reporting) (choice : Choice) (file :
 
   pub states_many : length p.states.items ≡ length c.drafts.items
   states_many =
-      let cs = map unspent c.records.items in
+      let cs = map unadmitted c.records.items in
       let bs = b.records.items in
       ap length q.states ∙ length-map (states_of v cs bs) Some ∙ states_long v bs (partners_in v cs bs) 0 cs ∙ ap length (matched_records file now c h.is_current)
       ∙ sym (current_long file now before c b h)

@@ -1,23 +1,23 @@
--- What matching sees of the results of logs, whose records have the entries that are used up before them.
+-- What matching sees of the results of logs, whose records have the entries that admit them.
 use Rattle.std.proofs.Common.{◌≡◌, ◌+◌, List, map, length, sym, ap, ◌∙◌, subst}
 use Rattle.std.specs.List.{flat_map}
 use Rattle.sarif_entries.specs.File.{File}
 use Rattle.sarif_model.specs.Run.{results_of, results_total}
 use Rattle.sarif_model.specs.declared.record.Record.{Record}
 use Rattle.sarif_log.specs.LogBy.{limited_records}
-use Rattle.sarif_log.proofs.Limits.{all_spent_long, limited_long, records_unspent}
+use Rattle.sarif_log.proofs.Limits.{all_admitted_long, limited_long, records_unadmitted}
 use Rattle.sarif_log.proofs.Sides.{results_long}
 use Rattle.sarif_prepare.specs.declared.baselines.Baselines.{Baselines}
 use Rattle.sarif_prepare.specs.declared.halves.Half.{Half}
 use Rattle.sarif_prepare.specs.Internal.Halves.{IsCurrent}
-use Rattle.sarif_prepare.specs.Internal.Limiting.{unspent}
+use Rattle.sarif_prepare.specs.Internal.Limiting.{unadmitted}
 use Rattle.sarif_prepare.specs.Internal.Together.{AreTogether}
-use Rattle.sarif_prepare.proofs.Limits.{limited_unspent}
+use Rattle.sarif_prepare.proofs.Limits.{limited_unadmitted}
 use Rattle.sarif_runs.specs.Judging.{records_of, run_values}
 use Rattle.sarif_runs.specs.Placed.{Placed}
 
-pub matched_records : (file : File) (now : List Placed) (c : Half) → IsCurrent file now c → map unspent c.records.items ≡ records_of now
-matched_records file now c is = ap (map unspent) is.records ∙ limited_unspent file (records_of now) (records_unspent now)
+pub matched_records : (file : File) (now : List Placed) (c : Half) → IsCurrent file now c → map unadmitted c.records.items ≡ records_of now
+matched_records file now c is = ap (map unadmitted) is.records ∙ limited_unadmitted file (records_of now) (records_unadmitted now)
 
 -- there is a record for each result
 pub limited_total : (file : File) (now : List Placed) → length (records_of now) ≡ results_total (run_values now)

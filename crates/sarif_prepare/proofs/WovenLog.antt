@@ -61,7 +61,7 @@ use Rattle.sarif_prepare.proofs.Untaken.{untaken_is}
 use Rattle.sarif_prepare.proofs.WrittenSides.{few_left}
 use Rattle.sarif_log.proofs.Limits.{limited_long}
 use Rattle.sarif_prepare.specs.Internal.Limiting.{drafts_of}
-use Rattle.sarif_prepare.specs.Once.{limited_once, spent_once}
+use Rattle.sarif_prepare.specs.Once.{limited_once, admitted_once}
 use Rattle.sarif_prepare.proofs.Limits.{each_long, once_long}
 use Rattle.sarif_prepare.proofs.MatchedRecords.{limited_total, matched_records}
 
@@ -91,7 +91,7 @@ whole_sides file current baseline j k =
 -- ---- numbers of results
 
 once_many : (file : File) (rs : List Record) → length (limited_once file rs) ≡ length rs
-once_many file rs = each_long rs (spent_once file rs) (once_long file rs)
+once_many file rs = each_long rs (admitted_once file rs) (once_long file rs)
 
 pub current_long : (file : File) (now before : List Placed) → AreWhole now before → length (current_drafts file now) ≡ length (records_of now)
 current_long file now before w =

@@ -33,7 +33,7 @@ use Rattle.sarif_log.specs.Internal.Written.{AreWritten}
 use Rattle.sarif_results.proofs.JudgedCounts.{records_of_logs}
 use Rattle.sarif_prepare.proofs.LeftTexts.{counts, left_total, left_written, long}
 use Rattle.sarif_log.proofs.Limits.{limited_long}
-use Rattle.sarif_prepare.specs.Internal.Limiting.{unspent}
+use Rattle.sarif_prepare.specs.Internal.Limiting.{unadmitted}
 use Rattle.sarif_prepare.proofs.MatchedRecords.{limited_results, limited_total, matched_records}
 use Rattle.sarif_log.proofs.Sides.{drafts_long, few_present, own_total, results_long, states_long, taken_long}
 
@@ -49,15 +49,15 @@ current_long file now before c b h =
 
 pub current_side : (v : MatchingVersion) (file : File) (now before : List Placed) (c : Half) (b : Baselines) (s : Side) → AreTogether file now before c b
     → ArePartsOf own_count s.runs.items (run_values now) → AllByRecursion IsWholeRun s.runs.items
-    → s.drafts.items ≡ c.drafts.items → s.states.items ≡ map Some (states_of v (map unspent c.records.items) b.records.items)
+    → s.drafts.items ≡ c.drafts.items → s.states.items ≡ map Some (states_of v (map unadmitted c.records.items) b.records.items)
     → IsSide s
 current_side v file now before c b s h parts whole drafts states =
     let many = current_long file now before c b h in record {
       whole = whole;
       drafts = ap length drafts ∙ many ∙ h.current_records ∙ sym (own_total s.runs.items (run_values now) parts);
       states =
-          ap length states ∙ length-map (states_of v (map unspent c.records.items) b.records.items) Some
-          ∙ states_long v b.records.items (partners_in v (map unspent c.records.items) b.records.items) 0 (map unspent c.records.items)
+          ap length states ∙ length-map (states_of v (map unadmitted c.records.items) b.records.items) Some
+          ∙ states_long v b.records.items (partners_in v (map unadmitted c.records.items) b.records.items) 0 (map unadmitted c.records.items)
           ∙ ap length (matched_records file now c h.is_current) ∙ sym many ∙ sym (ap length drafts);
     }
 
@@ -142,7 +142,7 @@ baseline_counts v file now before c b t x l y h left =
 
 pub written : (v : MatchingVersion) (file : File) (now before : List Placed) (c : Half) (b : Baselines) (s t : Side) → AreTogether file now before c b
     → ArePartsOf own_count s.runs.items (run_values now)
-    → s.drafts.items ≡ c.drafts.items → s.states.items ≡ map Some (states_of v (map unspent c.records.items) b.records.items)
+    → s.drafts.items ≡ c.drafts.items → s.states.items ≡ map Some (states_of v (map unadmitted c.records.items) b.records.items)
     → IsLeft before (taken_of v (records_of now) (records_of before)) t
     → AreWritten s t (runs_by v file now before)
 written v file now before c b s t h parts drafts states left =

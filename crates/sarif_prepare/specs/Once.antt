@@ -19,7 +19,7 @@ use Rattle.sarif_once.specs.Once.{without_copies}
 use Rattle.sarif_read.specs.Unmarked.{unmarked}
 use Rattle.sarif_runs.specs.Judging.{records_of, run_values}
 use Rattle.sarif_runs.specs.Placed.{Placed}
-use Rattle.sarif_suppress.specs.Limited.{all_spent, with_spent}
+use Rattle.sarif_suppress.specs.Limited.{all_admitted, with_admitted}
 use Rattle.sarif_suppress.specs.Suppressing.{unused_of}
 
 -- ---- matching
@@ -44,15 +44,15 @@ taken_once version cs bs =
 abbrev pub with_each : List Record → List (List ℕ) → List Record
 with_each [] lists = []
 with_each (r ∷ rs) [] = []
-with_each (r ∷ rs) (numbers ∷ lists) = with_spent r numbers ∷ with_each rs lists
+with_each (r ∷ rs) (numbers ∷ lists) = with_admitted r numbers ∷ with_each rs lists
 
--- for each result the numbers of the entries that are used up before its finding
-abbrev pub spent_once : File → List Record → List (List ℕ)
-spent_once file rs = spread [] (numbers_of rs) (all_spent file (findings_only rs))
+-- for each result the numbers of the entries that admit its finding
+abbrev pub admitted_once : File → List Record → List (List ℕ)
+admitted_once file rs = spread [] (numbers_of rs) (all_admitted file (findings_only rs))
 
--- the results, each with the entries that are used up before its finding
+-- the results, each with the entries that admit its finding
 abbrev pub limited_once : File → List Record → List Record
-limited_once file rs = with_each rs (spent_once file rs)
+limited_once file rs = with_each rs (admitted_once file rs)
 
 -- ---- what is written
 

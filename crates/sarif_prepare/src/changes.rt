@@ -1,45 +1,44 @@
-//! What entries that are used up change for results.
+//! What entries with `max` change for the results that they admit.
 ghost use Rattle.std.specs.Prelude.{◌≡◌, ◌++◌, IfOk, length};
 ghost use Rattle.sarif_once.specs.Once.{marked};
-ghost use Rattle.sarif_prepare.specs.Internal.Limiting.{put_draft, put_drafts, put_spent};
-ghost use Rattle.sarif_suppress.specs.Limited.{with_spent};
+ghost use Rattle.sarif_prepare.specs.Internal.Limiting.{put_draft, put_drafts, put_admitted};
+ghost use Rattle.sarif_suppress.specs.Limited.{with_admitted};
 ghost use Rattle.sarif_read.specs.Unmarked.{unmarked};
 
 use sarif_model::{Record, Sequence};
 use sarif_results::Draft;
 use std::alloc::{AllocError, Global};
 
-/// What changes for current results before which entries of the suppression file are used up. Both lists are empty if
-/// no entry has a `max`.
+/// What changes for current results that entries with `max` admit. Both lists are empty if no entry has a `max`.
 #[derive(Drop)]
 pub(crate) struct Changes {
     /// For each result the numbers of these entries.
-    pub(crate) spent: Vec<Sequence<u32>>,
-    /// For each result its draft, if there are such entries: they don't suppress it.
+    pub(crate) admitted: Vec<Sequence<u32>>,
+    /// For each result its draft with these entries, if there are some.
     pub(crate) drafts: Vec<Option<Draft>>,
 }
 
-/// The record of a result before which the entries with these numbers are used up.
+/// The record of a result that the entries with these numbers admit.
 fn change_record(record: Record, numbers: Sequence<u32>) -> Record
-    ensures { result ≡ with_spent «record» numbers }
+    ensures { result ≡ with_admitted «record» numbers }
 {
     let mut record = record;
-    record.spent = numbers;
+    record.admitted = numbers;
     record
 }
 
-/// The records of results with these numbers of entries that are used up before them.
+/// The records of results with the numbers of the entries that admit them.
 pub(crate) fn change_records(
     alloc: Global,
     records: Vec<Record>,
-    spent: Vec<Sequence<u32>>,
+    admitted: Vec<Sequence<u32>>,
 ) -> Result<Vec<Record>, AllocError>
-    ensures { IfOk result (λ changed. changed.items ≡ put_spent records.items spent.items) }
+    ensures { IfOk result (λ changed. changed.items ≡ put_admitted records.items admitted.items) }
 {
     let mut changed = Vec::with_capacity(alloc, records.len())?;
-    let mut spent = spent.into_iter();
+    let mut admitted = admitted.into_iter();
     for record in records {
-        match spent.next() {
+        match admitted.next() {
             Some(numbers) => changed.push(change_record(record, numbers))?,
             None => changed.push(record)?,
         }

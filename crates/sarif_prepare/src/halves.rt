@@ -5,7 +5,7 @@ ghost use Rattle.sarif_entries.specs.File.{File};
 ghost use Rattle.sarif_model.specs.Run.{results_of};
 ghost use Rattle.sarif_runs.specs.Judging.{records_in, records_of, run_values};
 ghost use Rattle.sarif_runs.specs.Placed.{Placed};
-ghost use Rattle.sarif_suppress.specs.Limited.{all_spent};
+ghost use Rattle.sarif_suppress.specs.Limited.{all_admitted};
 ghost use Rattle.sarif_prepare.specs.Internal.Halves.{drafts_in, with_draft, IsCurrent, IsFound};
 ghost use Rattle.sarif_prepare.specs.Internal.Limiting.{AreChanges};
 ghost use Rattle.sarif_results.specs.Internal.Judged.{placed_in, IsJudged};
@@ -101,7 +101,7 @@ pub(crate) fn change_half<'t, 'a>(
 ) -> Result<Half<'t, 'a>, AllocError>
     ensures { IfOk result (λ changed. (file : File) (runs : List Placed)
         → IsFound file runs half.entry
-        → AreChanges file (records_of runs) (all_spent file (records_of runs))
+        → AreChanges file (records_of runs) (all_admitted file (records_of runs))
         (flat_map results_of (run_values runs)) changes
         → IsCurrent file runs changed) }
 {
@@ -111,10 +111,10 @@ pub(crate) fn change_half<'t, 'a>(
         drafts,
     } = half;
     let Changes {
-        spent,
+        admitted,
         drafts: again,
     } = changes;
-    let records = change_records(alloc, records, spent)?;
+    let records = change_records(alloc, records, admitted)?;
     let drafts = change_drafts(alloc, drafts, again)?;
     Ok(Half {
         runs,

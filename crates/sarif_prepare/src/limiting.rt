@@ -1,23 +1,19 @@
-//! Results before which entries with `max` are used up: what changes for them. Their drafts are made again without
-//! these entries.
+//! Results that entries with `max` admit: what changes for them. Their drafts are made again with these entries.
 ghost use Rattle.std.specs.Prelude.{◌≡◌, ◌<◌, ◌++◌, ◌∷◌, [], false, List, IfOk, OnOk, length, map, is_none, slice_index_or};
 ghost use Rattle.std.specs.List.{All, list_all, flat_map};
 ghost use Rattle.sarif_copies.specs.Copies.{copies_of, numbers_of, spread};
-ghost use Rattle.sarif_model.specs.declared.record.Record.{Record as Found};
 ghost use Rattle.sarif_model.specs.Run.{result_at, results_of};
-ghost use Rattle.sarif_prepare.specs.Internal.Halves.{drafts_in};
 ghost use Rattle.sarif_prepare.specs.Internal.Leftover.{found_at};
 ghost use Rattle.sarif_prepare.specs.Internal.Limiting as said_again;
 ghost use Rattle.sarif_prepare.specs.Internal.Limiting.{draft_of, drafts_again, AreChanges};
 ghost use Rattle.sarif_prepare.specs.Internal.Apart.{AreChangesOnce};
 ghost use Rattle.sarif_read.specs.Unmarked.{unmarked};
-ghost use Rattle.sarif_results.specs.Drafts.{applied_of};
 ghost use Rattle.sarif_results.specs.Internal.Judged.{placed_in, IsJudged};
 ghost use Rattle.sarif_runs.specs.Internal.Opened.{placed_of};
 ghost use Rattle.sarif_runs.specs.Internal.Spots.{IsSpotOf};
 ghost use Rattle.sarif_runs.specs.Judging.{records_in, records_of, run_values};
 ghost use Rattle.sarif_suppress.specs.Limited as said;
-ghost use Rattle.sarif_suppress.specs.Limited.{all_spent, is_unlimited, AreUnspent};
+ghost use Rattle.sarif_suppress.specs.Limited.{all_admitted};
 
 use crate::changes::{Changes, SplitDrafts, split_drafts};
 use sarif_copies::Apart;
@@ -31,16 +27,20 @@ use std::alloc::{AllocError, Global};
 
 // ---- one result
 
-/// The record of a result before which the entries with these numbers are used up. Its strings are shared.
-fn with_spent(alloc: Global, found: &Record, spent: Sequence<u32>) -> Result<Record, AllocError>
-    ensures { IfOk result (λ limited. limited ≡ said.with_spent found.now spent) }
+/// The record of a result that the entries with these numbers admit. Its strings are shared.
+fn with_admitted(
+    alloc: Global,
+    found: &Record,
+    admitted: Sequence<u32>,
+) -> Result<Record, AllocError>
+    ensures { IfOk result (λ limited. limited ≡ said.with_admitted found.now admitted) }
 {
     let mut limited = as_matched(alloc, MatchingVersion::Two, found)?;
     limited.snippet = match &found.snippet {
         Some(text) => Some(text.clone()?),
         None => None,
     };
-    limited.spent = spent;
+    limited.admitted = admitted;
     Ok(limited)
 }
 
@@ -82,7 +82,7 @@ fn same_numbers(alloc: Global, numbers: &[u32]) -> Result<Sequence<u32>, AllocEr
     Ok(same)
 }
 
-/// The draft of a current result before which the entries with these numbers are used up, if there are some.
+/// The draft of a current result that the entries with these numbers admit, if there are some.
 fn limited_draft(
     alloc: Global,
     file: &Suppressions,
@@ -96,73 +96,42 @@ fn limited_draft(
     if numbers.is_empty() {
         return Ok(None);
     }
-    let limited = with_spent(alloc, found.record, same_numbers(alloc, numbers)?)?;
+    let limited = with_admitted(alloc, found.record, same_numbers(alloc, numbers)?)?;
     let draft = draft_again(alloc, file, found, &limited)?;
     Ok(Some(draft))
 }
 
 // ---- all results
 
-/// The records and the drafts of judged results.
-#[derive(Drop)]
-struct Known<'w> {
-    records: Vec<&'w Record>,
-    drafts: Vec<&'w Draft>,
-}
-
-/// The records and the drafts of these outcomes.
-fn list_known<'w>(alloc: Global, outcomes: &'w [Outcome]) -> Result<Known<'w>, AllocError>
-    ensures records { IfOk result (λ known. map (λ r. r.now) known.records.items
+/// The records of these outcomes.
+fn list_records<'w>(alloc: Global, outcomes: &'w [Outcome]) -> Result<Vec<&'w Record>, AllocError>
+    ensures { IfOk result (λ records. map (λ r. r.now) records.items
         ≡ records_in (map (λ o. o.item) outcomes.now)) }
-    ensures drafts { IfOk result
-        (λ known. map (λ d. d.now) known.drafts.items ≡ drafts_in outcomes.now) }
 {
     let mut records = Vec::with_capacity(alloc, outcomes.len())?;
-    let mut drafts = Vec::with_capacity(alloc, outcomes.len())?;
     for outcome in outcomes {
         if let Item::Sound(record) = &outcome.item {
             records.push(record)?;
         }
-        if let Some(draft) = &outcome.draft {
-            drafts.push(draft)?;
-        }
     }
-    Ok(Known { records, drafts })
+    Ok(records)
 }
 
-/// For each of these results the numbers of the entries that are used up before it.
-fn list_spent(
-    alloc: Global,
-    file: &Suppressions,
-    drafts: &[&Draft],
-) -> Result<Vec<Sequence<u32>>, AllocError>
-    ensures { IfOk result (λ lists. (rs : List Found) → AreUnspent rs
-        → map (λ d. d.now.applied) drafts.now ≡ map (applied_of file.now) rs
-        → lists.items ≡ all_spent file.now rs) }
-{
-    let mut left = file.left(alloc)?;
-    let mut lists = Vec::with_capacity(alloc, drafts.len())?;
-    for draft in drafts {
-        lists.push(left.count(alloc, &draft.applied)?)?;
-    }
-    Ok(lists)
-}
-
-/// The drafts of the findings: `copies` says which results are copies.
+/// The records of the findings: `copies` says which results are copies.
 fn list_findings<'w>(
     alloc: Global,
-    drafts: Vec<&'w Draft>,
+    records: Vec<&'w Record>,
     copies: &[bool],
-) -> Result<Vec<&'w Draft>, AllocError>
-    requires { length drafts.items ≡ length copies.now }
-    ensures { IfOk result (λ findings. findings.items ≡ unmarked copies.now drafts.entry.items) }
+) -> Result<Vec<&'w Record>, AllocError>
+    requires { length records.items ≡ length copies.now }
+    ensures { IfOk result (λ findings. findings.items ≡ unmarked copies.now records.entry.items) }
 {
     let mut findings = Vec::new(alloc);
-    let mut drafts = drafts.into_iter();
+    let mut records = records.into_iter();
     for is_copy in copies {
-        if let Some(draft) = drafts.next() {
+        if let Some(found) = records.next() {
             if !*is_copy {
-                findings.push(draft)?;
+                findings.push(found)?;
             }
         }
     }
@@ -184,7 +153,7 @@ fn numbers_at(
 }
 
 /// For each result the numbers of its finding.
-fn spread_spent(
+fn spread_admitted(
     alloc: Global,
     findings: &[u32],
     lists: &[Sequence<u32>],
@@ -198,8 +167,7 @@ fn spread_spent(
     Ok(all)
 }
 
-/// The drafts of the results at these spots of `runs`, where they are made again: before each result the entries of
-/// these numbers are used up.
+/// The drafts of the results at these spots of `runs`, where they are made again: the entries of these numbers admit each.
 fn list_drafts(
     alloc: Global,
     file: &Suppressions,
@@ -242,20 +210,20 @@ pub(crate) fn changes_of_all(
 ) -> Result<Changes, AllocError>
     requires { IsJudged file.now false judged.now }
     ensures { IfOk result (AreChanges file.now (records_of (placed_in judged.now))
-        (all_spent file.now (records_of (placed_in judged.now)))
+        (all_admitted file.now (records_of (placed_in judged.now)))
         (flat_map results_of (run_values (placed_in judged.now)))) }
 {
     if have_no_limit(file.entries()) {
         return Ok(Changes {
-            spent: Vec::new(alloc),
+            admitted: Vec::new(alloc),
             drafts: Vec::new(alloc),
         });
     }
-    let Known { records, drafts } = list_known(alloc, &judged.outcomes)?;
-    let spent = list_spent(alloc, file, &drafts)?;
+    let records = list_records(alloc, &judged.outcomes)?;
+    let admitted = file.admitted(alloc, &records)?;
     let spots = list_spots(alloc, &judged.runs)?;
-    let drafts = list_drafts(alloc, file, &judged.runs, &spots, &records, &spent)?;
-    Ok(Changes { spent, drafts })
+    let drafts = list_drafts(alloc, file, &judged.runs, &spots, &records, &admitted)?;
+    Ok(Changes { admitted, drafts })
 }
 
 /// What changes for the findings of logs, and the drafts of their copies, where they are made again.
@@ -280,21 +248,22 @@ pub(crate) fn changes_once(
     if have_no_limit(file.entries()) {
         return Ok(ChangesOnce {
             findings: Changes {
-                spent: Vec::new(alloc),
+                admitted: Vec::new(alloc),
                 drafts: Vec::new(alloc),
             },
             copies: Vec::new(alloc),
         });
     }
-    let Known { records, drafts } = list_known(alloc, &judged.outcomes)?;
-    let found = list_findings(alloc, drafts, &apart.copies)?;
-    let spent = list_spent(alloc, file, &found)?;
-    let lists = spread_spent(alloc, &apart.numbers, &spent)?;
+    let records = list_records(alloc, &judged.outcomes)?;
+    let all = list_records(alloc, &judged.outcomes)?;
+    let found = list_findings(alloc, all, &apart.copies)?;
+    let admitted = file.admitted(alloc, &found)?;
+    let lists = spread_admitted(alloc, &apart.numbers, &admitted)?;
     let spots = list_spots(alloc, &judged.runs)?;
     let drafts = list_drafts(alloc, file, &judged.runs, &spots, &records, &lists)?;
     let SplitDrafts { findings, copies } = split_drafts(alloc, drafts, &apart.copies)?;
     let findings = Changes {
-        spent,
+        admitted,
         drafts: findings,
     };
     Ok(ChangesOnce { findings, copies })

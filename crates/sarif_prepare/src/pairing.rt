@@ -9,7 +9,7 @@ ghost use Rattle.sarif_prepare.specs.Internal.Limiting.{AreChanges};
 ghost use Rattle.sarif_prepare.specs.Internal.Together.{AreFound, ArePaired, AreTogether, IsPaired};
 ghost use Rattle.sarif_runs.specs.Judging.{records_of, run_values};
 ghost use Rattle.sarif_runs.specs.Placed.{Placed};
-ghost use Rattle.sarif_suppress.specs.Limited.{all_spent};
+ghost use Rattle.sarif_suppress.specs.Limited.{all_admitted};
 
 use crate::baselines::Baselines;
 use crate::changes::Changes;
@@ -95,8 +95,7 @@ impl<'t, 'a> PairedSides<'t, 'a> {
     }
 }
 
-/// Matches the results of logs with those of baselines. After that, results of logs get the entries that are used up
-/// before them.
+/// Matches the results of logs with those of baselines. After that, results of logs get the entries that admit them.
 pub(crate) fn pair_sides<'t, 'a, R: Threads + Sync>(
     rt: &R,
     alloc: Global,
@@ -107,12 +106,12 @@ pub(crate) fn pair_sides<'t, 'a, R: Threads + Sync>(
 ) -> Result<PairedSides<'t, 'a>, AllocError>
     requires found { (file : File) × (current_runs : List Placed) × (baseline_runs : List Placed)
         × AreFound file current_runs baseline_runs current baselines
-        × AreChanges file (records_of current_runs) (all_spent file (records_of current_runs))
+        × AreChanges file (records_of current_runs) (all_admitted file (records_of current_runs))
         (flat_map results_of (run_values current_runs)) changes }
     ensures together { IfOk result (λ sides. (file : File)
         (current_runs baseline_runs : List Placed)
         → AreFound file current_runs baseline_runs current.entry baselines.entry
-        → AreChanges file (records_of current_runs) (all_spent file (records_of current_runs))
+        → AreChanges file (records_of current_runs) (all_admitted file (records_of current_runs))
         (flat_map results_of (run_values current_runs)) changes
         → AreTogether file current_runs baseline_runs sides.current sides.baselines) }
     ensures paired { IfOk result (λ sides.

@@ -1,12 +1,11 @@
 -- A run with other results: what is the same, and its results.
-use Rattle.std.proofs.Common.{◌≡◌, ◌≤◌, ℕ, Bool, true, false, List, [], ◌∷◌, ◌++◌, map, length, Option, Some, None, option_map, option_and_then, is_some, refl, sym, ap, ◌∙◌, subst, arith, codes, IsTrue}
+use Rattle.std.proofs.Common.{◌≡◌, ◌≤◌, Bool, true, false, List, [], ◌∷◌, map, length, Option, Some, None, option_map, option_and_then, refl, sym, ap, ◌∙◌, subst, arith, codes, IsTrue}
 use Rattle.std.specs.List.{list_any}
-use Rattle.json.specs.Token.{Token}
 use Rattle.json_parts.proofs.Keeping.{put_whole}
-use Rattle.serde_json.specs.Data.{Data, null, boolean, number, string, array, object, Items, Members, no_members, member, put, no_items, item}
-use Rattle.serde_json.specs.Find.{get, get_member, as_array}
+use Rattle.serde_json.specs.Data.{Data, null, boolean, number, string, array, object, Items, put}
+use Rattle.serde_json.specs.Find.{get_member, as_array}
 use Rattle.serde_json.specs.View.{view, items_of}
-use Rattle.serde_json.specs.Written.{has_float, items_have_float, members_have_float}
+use Rattle.serde_json.specs.Written.{has_float, items_have_float}
 use Rattle.serde_json.proofs.Views.{get_member-put}
 use Rattle.sarif_model.proofs.Elements.{items_back}
 use Rattle.sarif_model.proofs.PutAgain.{put_put}

@@ -24,7 +24,6 @@ use Rattle.json_parts.proofs.Stripped.{absent_below}
 use Rattle.sarif_read.specs.declared.listed.Listed.{Listed}
 use Rattle.sarif_read.specs.declared.listed.Listed.TheVariants.{Missing, Null, Array}
 use Rattle.sarif_read.specs.declared.indexed_run.IndexedRun.{IndexedRun}
-use Rattle.sarif_model.specs.Members.{elements}
 use Rattle.sarif_model.specs.Run.{results_of, results_array, result_at, elements_or_none}
 use Rattle.sarif_read.specs.Internal.Bare.{bare, is_bare}
 use Rattle.sarif_read.specs.Internal.Listed.{value_at, nodes_of, listed_member}

@@ -1,5 +1,5 @@
 -- Addresses in rows of Markdown: their characters, and how long they are.
-use Rattle.std.proofs.Common.{◌≡◌, ◌<◌, ◌≤◌, ◌+◌, ◌*◌, ◌-◌, ◌^◌, ◌%◌, ◌++◌, ◌==◌, ◌⊎◌, inl, inr, ⊎_elim, ℕ, zero, suc, Bool, true, false, not, ◌&&◌, ◌||◌, cond, List, [], ◌∷◌, Option, Some, None, IfSome, chars, codes, decimal, drop, encode_utf8, flat_map, length, length-append, nat_eq, nat_le, refl, sym, ap, ◌∙◌, subst, if◌then◌else◌, arith}
+use Rattle.std.proofs.Common.{◌≡◌, ◌<◌, ◌≤◌, ◌+◌, ◌*◌, ◌^◌, ◌%◌, ◌++◌, ◌==◌, ◌⊎◌, inl, inr, ⊎_elim, ℕ, zero, suc, Bool, true, false, not, ◌&&◌, List, [], ◌∷◌, Option, Some, None, IfSome, chars, codes, decimal, drop, encode_utf8, flat_map, length, length-append, nat_eq, nat_le, refl, sym, ap, ◌∙◌, subst, if◌then◌else◌, arith}
 use Rattle.std.specs.Prelude.{encode_utf8_all, is_some, option_and_then, unwrap_or}
 use Rattle.std.specs.List.{All, count_by, list_all, onto_first, slice_split, starts_with}
 use Rattle.std.specs.Option.{option_map_or, option_or}

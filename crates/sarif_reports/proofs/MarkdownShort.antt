@@ -24,7 +24,7 @@ use Rattle.sarif_shown.specs.Facts.{Facts}
 use Rattle.sarif_reports.specs.MarkdownLaws.{AreSmall}
 use Rattle.sarif_reports.specs.MarkdownReport.{accept_line, count_row, counts_table, heading, in_table, last_lines, left_out, line_if, markdown_of, notes, others_line, paragraph, results_table, row_text, table_of, unshown_line}
 use Rattle.sarif_shown.specs.Sentences.{accept_text, counted, entries_text, gate_end, gate_text, hits_text, more_hits, more_of_both, more_others, more_text, runs_text, unshown_text}
-use Rattle.sarif_shown.specs.Unshown.{reported_number, unshown_number}
+use Rattle.sarif_shown.specs.Unshown.{unshown_number}
 use Rattle.sarif_findings.specs.declared.reporting.Show.{Show}
 use Rattle.sarif_findings.specs.declared.reporting.Show.TheVariants.{Hits, All}
 use Rattle.sarif_reports.proofs.TableRows.{hits_few, results_parted, table_fits, state_few}

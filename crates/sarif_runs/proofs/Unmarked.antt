@@ -1,14 +1,10 @@
 -- What of a run stays the same without some of its results.
-use Rattle.std.proofs.Common.{◌≡◌, Bool, true, false, List, [], ◌∷◌, Option, Some, None, option_map, refl, sym, ap, ◌∙◌, codes}
-use Rattle.std.proofs.lemmas.Bool.{or_parts}
-use Rattle.std.specs.List.{list_any}
-use Rattle.serde_json.specs.Data.{Data, null, boolean, number, string, array, object, Items}
-use Rattle.serde_json.specs.View.{items_of}
-use Rattle.serde_json.specs.Written.{has_float, items_have_float}
-use Rattle.json_parts.proofs.Keeping.{put_whole}
+use Rattle.std.proofs.Common.{◌≡◌, Bool, false, List, sym, ap, ◌∙◌}
+use Rattle.serde_json.specs.Data.{Data}
+use Rattle.serde_json.specs.Written.{has_float}
 use Rattle.sarif_model.specs.Driver.{tool_name}
-use Rattle.sarif_model.specs.Run.{results_array, results_of}
-use Rattle.sarif_read.specs.Unmarked.{unmarked, with_array, with_only, without_marked}
+use Rattle.sarif_model.specs.Run.{results_of}
+use Rattle.sarif_read.specs.Unmarked.{unmarked, with_only, without_marked}
 use Rattle.sarif_read.proofs.Only.{bare_only, results_float}
 use Rattle.sarif_runs.specs.Head.{head_of}
 use Rattle.sarif_runs.proofs.Beside.{bare_head, bare_tool_name}

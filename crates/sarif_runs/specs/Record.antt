@@ -53,7 +53,7 @@ record_by ignored head tool parts = do
     held = parts.held;
     region = if_placed place parts.region;
     snippet = if_placed place parts.snippet;
-    spent = [];
+    admitted = [];
   })
 
 -- the record of a result of a run with that head and that tool, or its first error

@@ -113,6 +113,6 @@ fn finish_record(
         held: parts.held,
         region,
         snippet,
-        spent: Sequence::new(alloc),
+        admitted: Sequence::new(alloc),
     })
 }

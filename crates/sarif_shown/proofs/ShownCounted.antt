@@ -1,11 +1,9 @@
 -- The shown results and those that are not shown, counted.
-use Rattle.std.proofs.Common.{◌≡◌, ◌+◌, ◌-◌, ◌≤◌, ℕ, not, List, length, ap, sym, refl, ◌∙◌, arith}
+use Rattle.std.proofs.Common.{◌≡◌, ◌+◌, ◌≤◌, not, List, length, ap, refl, arith}
 use Rattle.std.proofs.lemmas.List.Filters.{length-filter_both}
 use Rattle.serde_json.specs.Data.{Data}
-use Rattle.sarif_model.specs.declared.kinds.Level.TheVariants.{NoLevel}
 use Rattle.sarif_model.specs.Run.{runs_of}
 use Rattle.sarif_counts.specs.CountOf.{count_of}
-use Rattle.sarif_counts.specs.Hits.{hits_of}
 use Rattle.sarif_findings.specs.declared.finding.Finding.{Finding}
 use Rattle.sarif_findings.specs.declared.reporting.Reporting.{Reporting}
 use Rattle.sarif_findings.specs.declared.reporting.Show.{Show}
@@ -13,7 +11,7 @@ use Rattle.sarif_findings.specs.declared.reporting.Show.TheVariants.{Hits, All}
 use Rattle.sarif_findings.specs.Reported.{reported_of}
 use Rattle.sarif_findings.proofs.HitsAlone.{hits_filtered}
 use Rattle.sarif_findings.proofs.HitsReported.{all_reported, hits_alone}
-use Rattle.sarif_shown.specs.Unshown.{reported_number, unshown_number}
+use Rattle.sarif_shown.specs.Unshown.{unshown_number}
 
 -- no more are hits than are reported
 few_hits : (reporting : Reporting) (log : Data)

@@ -1,5 +1,5 @@
 -- Room to count failed calls.
-use Rattle.std.specs.Prelude.{ℕ, ◌<◌, ◌^◌}
+use Rattle.std.specs.Prelude.{◌<◌, ◌^◌}
 use Rattle.std.specs.List.{All}
 use Rattle.sarif_streams.specs.declared.readers.Readers.{Readers}
 use Rattle.sarif_streams.specs.Counted.{failed_calls}

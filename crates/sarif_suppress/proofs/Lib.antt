@@ -1,3 +1,4 @@
+pub mod Admitted
 pub mod ForGood
 pub mod KeySet
 pub mod LimitedResults
@@ -7,5 +8,4 @@ pub mod Numbered
 pub mod ReadBack
 pub mod Rising
 pub mod Selected
-pub mod Spent
 pub mod WrittenList

@@ -1,7 +1,7 @@
 -- Which results the entries with `max` match.
 use Rattle.std.proofs.Common.{◌≡◌, ℕ, zero, suc, ◌+◌, ◌<◌, ◌≤◌, Bool, true, false, not, ◌&&◌, cond, List, [], ◌∷◌, ◌++◌, take, Option, Some, None, Ok, nat_le, refl, sym, ap, ◌∙◌, arith}
 use mathlib.Core.Bool.{and-true}
-use Rattle.std.specs.Prelude.{count_by, is_none, min, slice_get}
+use Rattle.std.specs.Prelude.{count_by, is_none, is_some, min, slice_get}
 use Rattle.std.specs.List.{list_all}
 use Rattle.std.specs.Option.{option_map_or}
 use Rattle.std.proofs.lemmas.Bool.{and_parts}
@@ -16,26 +16,28 @@ use Rattle.sarif_entries.specs.declared.entry.Entry.{Entry}
 use Rattle.sarif_entries.specs.declared.limit.Limit.{Limit}
 use Rattle.sarif_entries.specs.Condition.{holds}
 use Rattle.sarif_entries.specs.File.{File, file_of}
-use Rattle.sarif_entries.specs.Matching.{hold, is_expired, is_met, is_used_up, matches}
+use Rattle.sarif_entries.specs.Matching.{hold, is_admitted, is_expired, is_met, matches}
 use Rattle.sarif_entries.proofs.EntryLimits.{numbered}
 use Rattle.sarif_filing.specs.Numbers.{numbers_from}
 use Rattle.sarif_filing.proofs.Numbered.{has, has_from}
-use Rattle.sarif_suppress.specs.Limited.{AreUnspent, is_unlimited, is_used_up_by, limited, limited_after, met_by, spent_after, with_spent}
+use Rattle.sarif_suppress.specs.Limited.{AreUnadmitted, has_room_after, is_unlimited, is_used_up_by, limited, limited_after, met_by, admitted_after, with_admitted}
 use Rattle.sarif_suppress.proofs.Limits.{met_more}
 
 -- ---- without limits
 
-none_spent : (test : Entry → Bool) (today : Option ℕ) (before : List Record) (n : ℕ) (es : List Entry) → list_all (λ (e : Entry). is_none e.limit) es ≡ true
-    → numbers_from (λ e. test e && is_used_up_by today before e) n es ≡ []
-none_spent test today before n [] none = refl
-none_spent test today before n (e ∷ es) none =
+pub none_admitted : (test : Entry → Bool) (today : Option ℕ) (before : List Record) (n : ℕ) (es : List Entry)
+    → list_all (λ (e : Entry). is_none e.limit) es ≡ true
+    → numbers_from (λ e. test e && has_room_after today before e) n es ≡ []
+none_admitted test today before n [] none = refl
+none_admitted test today before n (e ∷ es) none =
     let both = and_parts (is_none e.limit) _ none in
-    let unused : is_used_up_by today before e ≡ false = by_limit e.limit both.0 in
-    let rest = none_spent test today before (n + 1) es both.1 in
-    let no : (test e && is_used_up_by today before e) ≡ false = rw unused (and_false (test e)) in
+    let unlimited : has_room_after today before e ≡ false = by_limit e.limit both.0 in
+    let rest = none_admitted test today before (n + 1) es both.1 in
+    let no : (test e && has_room_after today before e) ≡ false = rw unlimited (and_false (test e)) in
     rw no rest
   where
-    by_limit : (limit : Option Limit) → is_none limit ≡ true → option_map_or (λ (l : Limit). nat_le l.most (met_by today e before)) limit false ≡ false
+    by_limit : (limit : Option Limit) → is_none limit ≡ true
+        → (is_some limit && not (option_map_or (λ (l : Limit). nat_le l.most (met_by today e before)) limit false)) ≡ false
     by_limit None is = refl
     by_limit (Some limit) is = let never : ⊥ = cc in absurd never
 
@@ -43,74 +45,74 @@ none_spent test today before n (e ∷ es) none =
     and_false true = refl
     and_false false = refl
 
-unlimited_after : (file : File) (before rs : List Record) → is_unlimited file ≡ true → AreUnspent rs → limited_after file before rs ≡ rs
-unlimited_after file before [] none unspent = refl
-unlimited_after file before (r ∷ rs) none unspent =
-    let nothing : spent_after file before r ≡ r.spent = none_spent (λ e. is_met file.today e r) file.today before 0 file.entries none ∙ sym unspent.0 in
-    rw (nothing, unlimited_after file (before ++ r ∷ []) rs none unspent.1) refl
+unlimited_after : (file : File) (before rs : List Record) → is_unlimited file ≡ true → AreUnadmitted rs → limited_after file before rs ≡ rs
+unlimited_after file before [] none unadmitted = refl
+unlimited_after file before (r ∷ rs) none unadmitted =
+    let nothing : admitted_after file before r ≡ r.admitted = none_admitted (λ e. is_met file.today e r) file.today before 0 file.entries none ∙ sym unadmitted.0 in
+    rw (nothing, unlimited_after file (before ++ r ∷ []) rs none unadmitted.1) refl
 
-pub unlimited_same : (file : File) (rs : List Record) → is_unlimited file ≡ true → AreUnspent rs → limited file rs ≡ rs
-unlimited_same file rs none unspent = unlimited_after file [] rs none unspent
+pub unlimited_same : (file : File) (rs : List Record) → is_unlimited file ≡ true → AreUnadmitted rs → limited file rs ≡ rs
+unlimited_same file rs none unadmitted = unlimited_after file [] rs none unadmitted
 
 -- ---- one result
 
--- conditions don't depend on the entries that are used up
-holds_spent : (c : Condition) (r : Record) (numbers : List ℕ) → holds c (with_spent r numbers) ≡ holds c r
-holds_spent (Tool text) r numbers = refl
-holds_spent (RuleId text) r numbers = refl
-holds_spent (Uri text) r numbers = refl
-holds_spent (UriPrefix prefix) r numbers = refl
-holds_spent (Guid guid) r numbers = refl
-holds_spent (Fingerprints pairs) r numbers = refl
-holds_spent (PartialFingerprints pairs) r numbers = refl
-holds_spent (Message text) r numbers = refl
-holds_spent (MessageId id) r numbers = refl
-holds_spent (MessageArguments texts) r numbers = refl
-holds_spent (Snippet text) r numbers = refl
+-- conditions don't depend on the entries that admit the result
+holds_admitted : (c : Condition) (r : Record) (numbers : List ℕ) → holds c (with_admitted r numbers) ≡ holds c r
+holds_admitted (Tool text) r numbers = refl
+holds_admitted (RuleId text) r numbers = refl
+holds_admitted (Uri text) r numbers = refl
+holds_admitted (UriPrefix prefix) r numbers = refl
+holds_admitted (Guid guid) r numbers = refl
+holds_admitted (Fingerprints pairs) r numbers = refl
+holds_admitted (PartialFingerprints pairs) r numbers = refl
+holds_admitted (Message text) r numbers = refl
+holds_admitted (MessageId id) r numbers = refl
+holds_admitted (MessageArguments texts) r numbers = refl
+holds_admitted (Snippet text) r numbers = refl
 
-hold_spent : (cs : List Condition) (r : Record) (numbers : List ℕ) → hold cs (with_spent r numbers) ≡ hold cs r
-hold_spent [] r numbers = refl
-hold_spent (c ∷ cs) r numbers = rw (holds_spent c r numbers, hold_spent cs r numbers) refl
+hold_admitted : (cs : List Condition) (r : Record) (numbers : List ℕ) → hold cs (with_admitted r numbers) ≡ hold cs r
+hold_admitted [] r numbers = refl
+hold_admitted (c ∷ cs) r numbers = rw (holds_admitted c r numbers, hold_admitted cs r numbers) refl
 
-pub met_spent : (today : Option ℕ) (e : Entry) (r : Record) (numbers : List ℕ) → is_met today e (with_spent r numbers) ≡ is_met today e r
-met_spent today e r numbers = ap (λ b. not (is_expired today e) && b) (hold_spent e.conditions r numbers)
+pub met_admitted : (today : Option ℕ) (e : Entry) (r : Record) (numbers : List ℕ) → is_met today e (with_admitted r numbers) ≡ is_met today e r
+met_admitted today e r numbers = ap (λ b. not (is_expired today e) && b) (hold_admitted e.conditions r numbers)
 
 -- an entry whose limit has its number matches a result that meets it, unless the results before use it up
-matches_first : (file : File) (before : List Record) (r : Record) (n : ℕ) (e : Entry) → slice_get file.entries n ≡ Some e
+pub matches_first : (file : File) (before : List Record) (r : Record) (n : ℕ) (e : Entry) → slice_get file.entries n ≡ Some e
     → ((limit : Limit) → e.limit ≡ Some limit → limit.number ≡ n)
-    → matches file.today e (with_spent r (spent_after file before r)) ≡ (is_met file.today e r && not (is_used_up_by file.today before e))
+    → matches file.today e (with_admitted r (admitted_after file before r)) ≡ (is_met file.today e r && not (is_used_up_by file.today before e))
 matches_first file before r n e at numbers =
-    ap (λ b. not (is_used_up e.limit (with_spent r (spent_after file before r))) && b) (met_spent file.today e r (spent_after file before r))
+    ap (λ b. is_admitted e.limit (with_admitted r (admitted_after file before r)) && b) (met_admitted file.today e r (admitted_after file before r))
     ∙ by_limit e.limit refl
   where
-    turned : (a b : Bool) → (not (a && b) && a) ≡ (a && not b)
-    turned true b = and-true (not b)
-    turned false b = refl
+    twice : (a b : Bool) → ((a && b) && a) ≡ (a && b)
+    twice true b = and-true b
+    twice false b = refl
 
     by_limit : (limit : Option Limit) → e.limit ≡ limit
-        → (not (is_used_up limit (with_spent r (spent_after file before r))) && is_met file.today e r)
+        → (is_admitted limit (with_admitted r (admitted_after file before r)) && is_met file.today e r)
         ≡ (is_met file.today e r && not (option_map_or (λ (l : Limit). nat_le l.most (met_by file.today e before)) limit false))
     by_limit None is = sym (and-true (is_met file.today e r))
     by_limit (Some limit) is =
-        let test : Entry → Bool = λ x. is_met file.today x r && is_used_up_by file.today before x in
-        let among : has limit.number (spent_after file before r) ≡ test e = has_from test 0 limit.number n file.entries e (omega (arith, numbers limit is)) at in
-        let used : is_used_up_by file.today before e ≡ nat_le limit.most (met_by file.today e before) =
-        ap (λ o. option_map_or (λ (l : Limit). nat_le l.most (met_by file.today e before)) o false) is in
+        let test : Entry → Bool = λ x. is_met file.today x r && has_room_after file.today before x in
+        let among : has limit.number (admitted_after file before r) ≡ test e = has_from test 0 limit.number n file.entries e (omega (arith, numbers limit is)) at in
+        let room : has_room_after file.today before e ≡ not (nat_le limit.most (met_by file.today e before)) =
+        ap (λ o. is_some o && not (option_map_or (λ (l : Limit). nat_le l.most (met_by file.today e before)) o false)) is in
         let met : Bool = is_met file.today e r in
-        ap (λ b. not b && met) (among ∙ ap (λ b. met && b) used) ∙ turned met (nat_le limit.most (met_by file.today e before))
+        ap (λ b. b && met) (among ∙ ap (λ b. met && b) room) ∙ twice met (not (nat_le limit.most (met_by file.today e before)))
 
 -- ---- all results
 
 limited_at : (file : File) (before rs : List Record) (i : ℕ) (r found : Record) → slice_get rs i ≡ Some r
-    → slice_get (limited_after file before rs) i ≡ Some found → found ≡ with_spent r (spent_after file (before ++ take i rs) r)
+    → slice_get (limited_after file before rs) i ≡ Some found → found ≡ with_admitted r (admitted_after file (before ++ take i rs) r)
 limited_at file before [] i r found at is = let never : ⊥ = cc in absurd never
 limited_at file before (x ∷ rs) zero r found at is =
     let same : x ≡ r = same_Some x r at in
-    let there : with_spent x (spent_after file before x) ≡ found = same_Some _ found is in
-    sym there ∙ ap (λ q. with_spent q (spent_after file before q)) same ∙ ap (λ b. with_spent r (spent_after file b r)) (sym (append-nil before))
+    let there : with_admitted x (admitted_after file before x) ≡ found = same_Some _ found is in
+    sym there ∙ ap (λ q. with_admitted q (admitted_after file before q)) same ∙ ap (λ b. with_admitted r (admitted_after file b r)) (sym (append-nil before))
 limited_at file before (x ∷ rs) (suc i) r found at is =
     limited_at file (before ++ x ∷ []) rs i r found at is
-    ∙ ap (λ b. with_spent r (spent_after file b r)) (append_assoc before (x ∷ []) (take i rs))
+    ∙ ap (λ b. with_admitted r (admitted_after file b r)) (append_assoc before (x ∷ []) (take i rs))
 
 pub first_match : (bytes : List ℕ) (today : Option ℕ) (file : File) (rs : List Record) (i n : ℕ) (r found : Record) (e : Entry)
     → file_of bytes today ≡ Ok file → slice_get file.entries n ≡ Some e → slice_get rs i ≡ Some r → slice_get (limited file rs) i ≡ Some found
@@ -156,7 +158,7 @@ counted_after file before (r ∷ rs) n e at numbers =
     let met : ℕ = met_by file.today e before in
     let one : Bool = is_met file.today e r && not (is_used_up_by file.today before e) in
     let left : ℕ = count_by (matches file.today e) (limited_after file (before ++ r ∷ []) rs) in
-    let found : Record = with_spent r (spent_after file before r) in
+    let found : Record = with_admitted r (admitted_after file before r) in
     let split : count_by (matches file.today e) (limited_after file before (r ∷ rs)) ≡ count_by (matches file.today e) (found ∷ []) + left =
     sum_by-append (λ q. cond (matches file.today e q) 1 0) (found ∷ []) (limited_after file (before ++ r ∷ []) rs) in
     let alone : count_by (matches file.today e) (found ∷ []) ≡ cond (matches file.today e found) 1 0 = omega arith in

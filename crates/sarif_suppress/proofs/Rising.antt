@@ -1,5 +1,5 @@
 -- Numbers of entries that are put in order.
-use Rattle.std.proofs.Common.{◌≡◌, ℕ, zero, suc, ◌+◌, ◌<◌, ◌≤◌, Bool, true, false, ◌&&◌, ◌||◌, ⊎_elim, List, [], ◌∷◌, filter, drop, get_or, length, Some, None, nat_eq, refl, sym, ap, ◌∙◌, arith, if◌then◌else◌}
+use Rattle.std.proofs.Common.{◌≡◌, ℕ, ◌+◌, ◌<◌, ◌≤◌, Bool, true, false, ◌&&◌, ◌||◌, ⊎_elim, List, [], ◌∷◌, filter, drop, get_or, length, Some, None, nat_eq, refl, sym, ap, ◌∙◌, arith, if◌then◌else◌}
 use Rattle.std.proofs.lemmas.Option.{slice_get_within}
 use Rattle.std.specs.BTreeSet.{insert_key}
 use Rattle.std.specs.Option.{option_map_or}
@@ -191,8 +191,3 @@ found_step test old new ns i n within is added =
     rw (added, split) (
     elim (test n) as (λ b. with_numbers (if b then insert_key nat_cmp old n else old) (filter test (drop (i + 1) ns))
     ≡ with_numbers old (if b then n ∷ filter test (drop (i + 1) ns) else filter test (drop (i + 1) ns))) [ true ↦ refl | false ↦ refl ])
-
-pub get_or_any : (ns : List ℕ) (i a b : ℕ) → i < length ns → get_or ns i a ≡ get_or ns i b
-get_or_any [] i a b within = absurd (omega (arith, within))
-get_or_any (n ∷ ns) zero a b within = refl
-get_or_any (n ∷ ns) (suc i) a b within = get_or_any ns i a b (omega (arith, within))

@@ -1,5 +1,5 @@
 -- Definitions for contracts within and between the crates, and for proofs. The merge theorem reaches none of them.
-pub mod Left
+pub mod Admission
 pub mod Marks
 pub mod Numbers
 pub mod Unseen

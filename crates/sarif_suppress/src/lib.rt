@@ -2,9 +2,9 @@
 //! those that match no result. `whole.rt` has the calls that the merge doesn't make.
 #![tactic(auto)]
 
+mod admission;
 mod lasting;
 mod laws;
-mod left;
 mod limited_laws;
 mod marks;
 mod objects;
@@ -18,7 +18,6 @@ pub use laws::{
     nothing_is_written_of_nothing, written_passes_where_its_parts_do,
     written_suppressions_say_what_is_suppressed,
 };
-pub use left::Left;
 pub use limited_laws::{
     an_entry_matches_as_many_as_its_limit, an_entry_matches_the_first_results_that_meet_it,
     results_stay_if_no_entry_has_a_limit,

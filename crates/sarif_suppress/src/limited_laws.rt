@@ -5,11 +5,11 @@ ghost use Rattle.sarif_model.specs.declared.record.Record.{Record};
 ghost use Rattle.sarif_entries.specs.declared.entry.Entry.{Entry};
 ghost use Rattle.sarif_entries.specs.File.{File, file_of};
 ghost use Rattle.sarif_entries.specs.Matching.{is_met, matches};
-ghost use Rattle.sarif_suppress.specs.Limited.{AreUnspent, is_unlimited, is_used_up_by, limited, met_by};
+ghost use Rattle.sarif_suppress.specs.Limited.{AreUnadmitted, is_unlimited, is_used_up_by, limited, met_by};
 
-/// If no entry has a `max`, none is used up before any result.
+/// If no entry has a `max`, none admits a result: all results stay.
 pub fn results_stay_if_no_entry_has_a_limit()
-    ensures { (file : File) (rs : List Record) → is_unlimited file ≡ true → AreUnspent rs
+    ensures { (file : File) (rs : List Record) → is_unlimited file ≡ true → AreUnadmitted rs
         → limited file rs ≡ rs }
 {}
 

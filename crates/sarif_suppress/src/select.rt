@@ -3,7 +3,8 @@ ghost use Rattle.std.specs.Prelude.{◌≡◌, ◌&&◌, [], false, filter, IfOk
 ghost use Rattle.std.specs.BTreeSet.{insert_key, keys};
 ghost use Rattle.std.specs.Ordering.{nat_cmp};
 ghost use Rattle.std.specs.List.{list_all};
-ghost use Rattle.sarif_entries.specs.Matching.{is_empty, is_used_up, matches};
+ghost use Rattle.sarif_entries.specs.Matching.{is_empty, matches};
+ghost use Rattle.sarif_entries.specs.Matching as matching;
 ghost use Rattle.sarif_model.specs.declared.record.Record.{Record as Found};
 ghost use Rattle.sarif_suppress.specs.Internal.Numbers.{passes_at, with_numbers};
 ghost use Rattle.sarif_suppress.specs.Suppressing as said;
@@ -25,24 +26,24 @@ fn set_of(alloc: Global, numbers: &[u32]) -> Result<BTreeSet<u32>, AllocError>
     Ok(set)
 }
 
-/// Returns whether an entry with this limit, if it has one, is used up before a result before which the entries with the
-/// numbers in `spent` are used up.
-fn is_spent(limit: Option<Limit>, spent: &BTreeSet<u32>) -> bool
-    ensures { (r : Found) → keys spent.now ≡ with_numbers [] r.spent
-        → result ≡ is_used_up limit r }
+/// Returns whether an entry with this limit admits a result that has the numbers in `admitted`; one without a limit admits
+/// each.
+fn is_admitted(limit: Option<Limit>, admitted: &BTreeSet<u32>) -> bool
+    ensures { (r : Found) → keys admitted.now ≡ with_numbers [] r.admitted
+        → result ≡ matching.is_admitted limit r }
 {
     match limit {
-        Some(limit) => spent.contains(&limit.number),
-        None => false,
+        Some(limit) => admitted.contains(&limit.number),
+        None => true,
     }
 }
 
-/// A result, and the numbers of the entries that are used up before it.
+/// A result, and the numbers of the entries with `max` that admit it.
 #[derive(Clone, Copy)]
 struct Given<'r> {
     record: &'r Record,
-    spent: &'r BTreeSet<u32>,
-    ghost are_spent: { keys spent.now ≡ with_numbers [] «record».now.spent },
+    admitted: &'r BTreeSet<u32>,
+    ghost are_admitted: { keys admitted.now ≡ with_numbers [] «record».now.admitted },
 }
 
 /// Adds the number, if there is such an entry and it matches the result.
@@ -58,7 +59,7 @@ fn add_if_matching(
         then insert_key nat_cmp (keys found.old) number else keys found.old)) }
 {
     if let Some(entry) = entries.get(number as usize) {
-        if !is_spent(entry.limit, given.spent) && entry.is_met(today, given.record) {
+        if is_admitted(entry.limit, given.admitted) && entry.is_met(today, given.record) {
             found.insert(number)?;
         }
     }
@@ -94,10 +95,10 @@ pub(crate) fn select(
     ensures { IfOk result (λ found. found ≡ with_numbers []
         (filter (passes_at (λ e. matches today e «record».now) entries.now) numbers.now)) }
 {
-    let spent = set_of(alloc, record.spent.as_slice())?;
+    let admitted = set_of(alloc, record.admitted.as_slice())?;
     let given = Given {
         record,
-        spent: &spent,
+        admitted: &admitted,
     };
     let mut found = BTreeSet::new(alloc);
     add_matching(&mut found, entries, today, given, numbers)?;

@@ -2,14 +2,12 @@
 ghost use Rattle.std.specs.Prelude.{◌≡◌, ◌≤◌, [], length, map, IfOk};
 ghost use Rattle.serde_json.specs.View.{view};
 ghost use Rattle.sarif_model.specs.declared.record.Record.{Record};
-ghost use Rattle.sarif_suppress.specs.Internal.Left.{left_after};
 ghost use Rattle.sarif_suppress.specs.Internal.Marks.{marks_of};
 ghost use Rattle.sarif_suppress.specs.Written as said;
 ghost use Rattle.sarif_suppress.specs.Suppressing.{lasting, matching_numbers, is_suppressed};
 ghost use Rattle.sarif_model.specs.Limits.{most_entries};
 
 use crate::lasting::do_suppress_for_good;
-use crate::left::Left;
 use crate::marks::Marks;
 use crate::objects::with_objects;
 use crate::select::{do_suppress, select};
@@ -109,8 +107,8 @@ impl<S: BuildHasher + Copy> Suppressions<S> {
         self.today
     }
 
-    /// Returns which entries match the result, and whether it is then suppressed (SARIF 2.1.0, result object,
-    /// "suppressions property"). Returns `AllocError` if memory runs out.
+    /// Returns which entries match the result, and whether it is then suppressed (SARIF 2.1.0, result object, "suppressions
+    /// property"). An entry with `max` matches only if it admits the result. Returns `AllocError` if memory runs out.
     pub fn apply(&self, alloc: Global, record: &Record) -> Result<Applied, AllocError>
         ensures entries { IfOk result
             (λ applied. applied.entries ≡ matching_numbers self.now «record».now) }
@@ -155,13 +153,9 @@ impl<S: BuildHasher + Copy> Suppressions<S> {
         Ok(list)
     }
 
-    /// Returns how many more results each entry with `max` matches, before any result. Returns `AllocError` if memory for
-    /// these numbers runs out.
-    #[tactic(auto, using(crate::proofs::Limits::all_left))]
-    pub fn left(&self, alloc: Global) -> Result<Left, AllocError>
-        ensures { IfOk result (λ left. left ≡ left_after self.now []) }
-    {
-        Ok(Left::of_all(alloc, &self.entries)?)
+    /// By which the tables hash.
+    pub(crate) fn hasher(&self) -> S {
+        self.hasher
     }
 
     /// Returns a mark for each entry, none of them set. Returns `AllocError` if memory for them runs out.

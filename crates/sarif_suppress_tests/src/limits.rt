@@ -1,26 +1,48 @@
 //! Entries with `max`, with results that were computed by hand.
 use sarif_entries::{FileFault, entries_of_file};
-use sarif_model::{Fault, Refusal};
-use sarif_suppress::Left;
+use sarif_model::{Fault, Record, Refusal, Sequence};
 use std::alloc::{AllocError, Global};
 use std::test::Fail;
 use test_suppress::{Plain, asked_of_file, file_of, result_at};
 
-/// `s` if the file suppresses the next result, which is at this URI, otherwise `a`.
-fn side_of(alloc: Global, rules: &Plain, left: &mut Left, uri: &str) -> Result<char, AllocError> {
-    let mut finding = result_at(alloc, "R1", Some(uri))?;
-    let unspent = rules.apply(alloc, &finding)?;
-    finding.spent = left.count(alloc, &unspent)?;
+/// `s` if the file suppresses the result, which these entries with `max` admit, otherwise `a`.
+fn side_of(
+    alloc: Global,
+    rules: &Plain,
+    finding: Record,
+    admitted: Sequence<u32>,
+) -> Result<char, AllocError> {
+    let mut finding = finding;
+    finding.admitted = admitted;
     let applied = rules.apply(alloc, &finding)?;
     Ok(if applied.suppressed { 's' } else { 'a' })
 }
 
+/// For each of these results the numbers of the entries with `max` that admit it.
+fn admitted_by(
+    alloc: Global,
+    rules: &Plain,
+    findings: &[Record],
+) -> Result<Vec<Sequence<u32>>, AllocError> {
+    let mut records = Vec::with_capacity(alloc, findings.len())?;
+    for finding in findings {
+        records.push(finding)?;
+    }
+    rules.admitted(alloc, &records)
+}
+
 /// Returns one letter for each of these results, in order.
 fn sides_by(alloc: Global, rules: &Plain, uris: &[&str]) -> Result<String, AllocError> {
-    let mut left = rules.left(alloc)?;
-    let mut sides = String::new(alloc);
+    let mut findings = Vec::new(alloc);
     for uri in uris {
-        sides.push(side_of(alloc, rules, &mut left, uri)?)?;
+        findings.push(result_at(alloc, "R1", Some(uri))?)?;
+    }
+    let mut lists = admitted_by(alloc, rules, &findings)?.into_iter();
+    let mut sides = String::new(alloc);
+    for finding in findings {
+        if let Some(admitted) = lists.next() {
+            sides.push(side_of(alloc, rules, finding, admitted)?)?;
+        }
     }
     Ok(sides)
 }

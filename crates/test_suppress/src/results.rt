@@ -21,7 +21,7 @@ pub fn result_at(alloc: Global, rule_id: &str, uri: Option<&str>) -> Result<Reco
     ensures full { IfOk result (λ made. made.full ≡ []) }
     ensures partial { IfOk result (λ made. made.partial ≡ []) }
     ensures held { IfOk result (λ made. made.held ≡ []) }
-    ensures unspent { IfOk result (λ made. made.spent ≡ []) }
+    ensures unadmitted { IfOk result (λ made. made.admitted ≡ []) }
 {
     Ok(Record {
         tool: Text::copy_of(alloc, "lint")?,
@@ -43,6 +43,6 @@ pub fn result_at(alloc: Global, rule_id: &str, uri: Option<&str>) -> Result<Reco
         held: Sequence::new(alloc),
         region: None,
         snippet: None,
-        spent: Sequence::new(alloc),
+        admitted: Sequence::new(alloc),
     })
 }

@@ -4,7 +4,7 @@ use Rattle.std.specs.HashMap.{get, HashMap}
 use Rattle.std.specs.List.{list_any}
 use Rattle.indexmap.specs.IndexSet.{contains, IndexSet}
 use Rattle.sarif_model.specs.declared.record.Record.{Record}
-use Rattle.sarif_copies.specs.Copies.{are_alike, first_alike, has_line, unspent}
+use Rattle.sarif_copies.specs.Copies.{are_alike, first_alike, has_line, unadmitted}
 use Rattle.sarif_copies.specs.declared.whole_record.WholeRecord.{WholeRecord}
 use Rattle.sarif_copies.specs.contracts.whole_record.WholeRecordPartialEq.TheImpl as derived
 
@@ -23,12 +23,12 @@ fields_of key = record {
   held = key.held.now;
   region = key.region;
   snippet = key.snippet.now;
-  spent = key.spent.now;
+  admitted = key.admitted.now;
 }
 
--- the record with these numbers of entries that are used up before it
+-- the record with these numbers of entries that admit it
 abbrev pub with_numbers : Record → List ℕ → Record
-with_numbers r numbers = record r { spent = numbers }
+with_numbers r numbers = record r { admitted = numbers }
 
 -- whether two keys are equal, field by field
 abbrev pub same_whole : WholeRecord → WholeRecord → Bool
@@ -41,8 +41,8 @@ IsTableOf before table =
     → get same_whole table key ≡ first_alike (fields_of key) 0 before
 
 -- the table has those of these results that have a URI and a region, regardless of the entries of a suppression file that
--- are used up before them
+-- admit them
 abbrev pub HasThese : {S : Type 0} → List Record → IndexSet WholeRecord S → Type 0
 HasThese rs table =
     (key : WholeRecord) → has_line (fields_of key) ≡ true
-    → contains same_whole table key ≡ list_any (λ q. are_alike (unspent q) (fields_of key)) rs
+    → contains same_whole table key ≡ list_any (λ q. are_alike (unadmitted q) (fields_of key)) rs

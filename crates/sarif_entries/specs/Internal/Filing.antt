@@ -11,12 +11,19 @@ use Rattle.sarif_entries.specs.declared.condition.Condition.TheVariants.{Guid, F
 use Rattle.sarif_entries.specs.declared.condition.ConditionKind.{ConditionKind}
 use Rattle.sarif_entries.specs.declared.condition.ConditionKind.TheVariants as kinds
 use Rattle.sarif_entries.specs.declared.entry.Entry.{Entry}
+use Rattle.sarif_entries.specs.declared.limit.Limit.{Limit}
 use Rattle.sarif_entries.specs.declared.filing.TextCondition.{TextCondition}
 use Rattle.sarif_entries.specs.declared.filing.TextCondition.TheVariants.{Uri, RuleId, Tool}
 use Rattle.sarif_entries.specs.declared.filing.PairCondition.{PairCondition}
 use Rattle.sarif_entries.specs.declared.filing.PairCondition.TheVariants.{Full, Partial}
 use Rattle.sarif_entries.specs.Condition.{is_pair, of_kind, text_in}
 use Rattle.sarif_entries.specs.Matching.{is_empty}
+
+-- ---- entries with `max`
+
+-- an entry with `max` is filed under no condition: it is found by the results that it admits
+abbrev pub filed : {A : Type 0} → Entry → Option A → Option A
+filed e key = if is_none e.limit then key else None
 
 -- ---- what the conditions name
 
@@ -182,24 +189,29 @@ has_no_key cs = is_unmarked cs && (has_tool_alone cs && is_none (text_in kinds.T
 -- the entry is filed under that GUID, that snippet and key, that pair of strings, that key of a message, that string, or
 -- not at all
 abbrev pub asks_for_guid : ℕ → Entry → Bool
-asks_for_guid guid e = option_map_or (λ own. nat_eq own guid) (guid_in e.conditions) false
+asks_for_guid guid e =
+    option_map_or (λ own. nat_eq own guid) (filed e (guid_in e.conditions)) false
 
 abbrev pub asks_for_snippet : List ℕ → List (List ℕ) → Entry → Bool
 asks_for_snippet snippet key e =
-    option_map_or (λ own. bytes_eq own snippet) (snippet_key e.conditions) false
+    option_map_or (λ own. bytes_eq own snippet) (filed e (snippet_key e.conditions)) false
     && pointwise bytes_eq (key_beside e.conditions) key
 
 abbrev pub asks_for_pair : PairCondition → List ℕ × List ℕ → Entry → Bool
 asks_for_pair which pair e =
-    option_map_or (λ own. is_pair own pair) (pair_key which e.conditions) false
+    option_map_or (λ own. is_pair own pair) (filed e (pair_key which e.conditions)) false
 
 abbrev pub asks_for_message : List (List ℕ) → Entry → Bool
 asks_for_message key e =
-    option_map_or (λ own. pointwise bytes_eq own key) (message_key e.conditions) false
+    option_map_or (λ own. pointwise bytes_eq own key) (filed e (message_key e.conditions)) false
 
 abbrev pub asks_for_text : TextCondition → List ℕ → Entry → Bool
 asks_for_text which text e =
-    option_map_or (λ own. bytes_eq own text) (text_key which e.conditions) false
+    option_map_or (λ own. bytes_eq own text) (filed e (text_key which e.conditions)) false
 
 abbrev pub asks_for_none : Entry → Bool
-asks_for_none e = has_no_key e.conditions
+asks_for_none e = is_none e.limit && has_no_key e.conditions
+
+-- the entry has a `max` and that number
+abbrev pub asks_for_number : ℕ → Entry → Bool
+asks_for_number n e = option_map_or (λ (own : Limit). nat_eq own.number n) e.limit false

@@ -5,7 +5,7 @@ use Rattle.std.specs.List.{flat_map, fold, list_any}
 use Rattle.std.specs.Option.{option_map_or}
 use Rattle.sarif_entries.specs.declared.entry.Entry.{Entry}
 use Rattle.sarif_filing.specs.declared.prefixes.PrefixTable.{PrefixTable}
-use Rattle.sarif_entries.specs.Internal.Filing.{prefix_key}
+use Rattle.sarif_entries.specs.Internal.Filing.{filed, prefix_key}
 use Rattle.sarif_filing.specs.Numbers.{numbers_from, numbers_at}
 
 -- the hash of a string with one more byte, from the hash of the string
@@ -27,11 +27,11 @@ is_listed lengths n = option_map_or (λ listed. listed) (slice_get lengths n) fa
 
 -- the entry is filed under a prefix of that length, or under one of that hash
 abbrev pub has_length : ℕ → Entry → Bool
-has_length n e = option_map_or (λ prefix. nat_eq (length prefix) n) (prefix_key e.conditions) false
+has_length n e = option_map_or (λ prefix. nat_eq (length prefix) n) (filed e (prefix_key e.conditions)) false
 
 abbrev pub asks_for_hash : ℕ → ℕ → Entry → Bool
 asks_for_hash base hash e =
-    option_map_or (λ prefix. nat_eq (hash_of base prefix) hash) (prefix_key e.conditions) false
+    option_map_or (λ prefix. nat_eq (hash_of base prefix) hash) (filed e (prefix_key e.conditions)) false
 
 -- one of the entries is filed under a prefix of that length
 abbrev pub is_length : ℕ → List Entry → Bool

@@ -10,7 +10,7 @@ use Rattle.sarif_entries.specs.declared.filing.TextCondition.TheVariants.{Uri, R
 use Rattle.sarif_filing.specs.declared.table.PairTables.{PairTables}
 use Rattle.sarif_filing.specs.declared.table.Table.{Table}
 use Rattle.sarif_filing.specs.declared.table.TextTables.{TextTables}
-use Rattle.sarif_entries.specs.Internal.Filing.{asks_for_guid, asks_for_snippet, asks_for_pair, asks_for_message, asks_for_text, asks_for_none, message_keys, keys_beside}
+use Rattle.sarif_entries.specs.Internal.Filing.{asks_for_guid, asks_for_snippet, asks_for_pair, asks_for_message, asks_for_text, asks_for_none, asks_for_number, message_keys, keys_beside}
 use Rattle.sarif_entries.specs.Condition.{is_pair}
 use Rattle.sarif_evidence.specs.Seen.{packed}
 use Rattle.sarif_filing.specs.Numbers.{numbers_from, numbers_at}
@@ -47,6 +47,8 @@ pub record IsTable {S H : Type 0} (entries : List Entry) (table : Table S H) : T
       ≡ numbers_from (asks_for_snippet snippet key) 0 entries
   pub pairs : ArePairTables entries table.pairs
   pub texts : AreTextTables entries table.texts
+  pub limited : (number : ℕ)
+      → numbers_at nat_eq table.limited number ≡ numbers_from (asks_for_number number) 0 entries
   pub rest : table.others.items ≡ numbers_from asks_for_none 0 entries
 
 -- the numbers of the entries that are filed under that snippet and one of these keys
@@ -54,8 +56,8 @@ abbrev pub under_snippet : List Entry → List ℕ → List (List (List ℕ)) �
 under_snippet es snippet keys =
     flat_map (λ key. numbers_from (asks_for_snippet snippet key) 0 es) keys
 
--- the numbers of the entries that are filed under values of a result, except prefixes, and of the entries that are
--- not filed
+-- the numbers of the entries that are filed under values of a result, except prefixes, of those that are compared with
+-- each result, and of those with `max` that admit the result
 abbrev pub candidates : List Entry → Record → List ℕ
 candidates es r =
     option_map_or (λ guid. numbers_from (asks_for_guid guid) 0 es) r.guid []
@@ -66,4 +68,5 @@ candidates es r =
     ++ (option_map_or (λ uri. numbers_from (asks_for_text Uri uri) 0 es) r.place.uri []
     ++ (numbers_from (asks_for_text RuleId r.rule_id) 0 es
     ++ (numbers_from (asks_for_text Tool r.tool) 0 es
-    ++ numbers_from asks_for_none 0 es)))))))
+    ++ (flat_map (λ number. numbers_from (asks_for_number number) 0 es) r.admitted
+    ++ numbers_from asks_for_none 0 es))))))))

@@ -9,7 +9,7 @@ use Rattle.sarif_model.specs.declared.record.Record.{Record}
 use Rattle.sarif_match.specs.declared.tier.Tier.{Tier}
 use Rattle.sarif_match.specs.Partners.{partners_after}
 use Rattle.sarif_match.specs.declared.numbers.Value.{Value}
-use Rattle.sarif_match.specs.declared.numbers.Value.TheVariants.{Text as a_text, Place as a_place, Message as a_message, Members as some_members}
+use Rattle.sarif_match.specs.declared.numbers.Value.TheVariants.{Text as a_text, Place as a_place, Message as a_message, Members as some_members, Snippet as a_snippet}
 use Rattle.sarif_match.specs.contracts.numbers.ValuePartialEq.TheImpl as derived
 
 -- whether two values are equal, byte by byte
@@ -63,7 +63,7 @@ module _ {S : Type 0} where
   -- a snippet as a number, if there is one
   abbrev pub IsShortSnippet : Numbers S → Option (List ℕ) → Option (List ℕ) → Type 0
   IsShortSnippet numbers None short = short ≡ None
-  IsShortSnippet numbers (Some text) short = IsNumbered numbers (a_text (lent text)) Some short
+  IsShortSnippet numbers (Some text) short = IsNumbered numbers (a_snippet (lent text)) Some short
 
   -- the record with numbers for its tool, rule, place, message, partial fingerprints and snippet
   pub record IsShort (numbers : Numbers S) (r short : Record) : Type 0 where

@@ -43,7 +43,7 @@ pub fn plain(alloc: Global) -> Result<Record, AllocError> {
         held: Sequence::new(alloc),
         region: None,
         snippet: None,
-        spent: Sequence::new(alloc),
+        admitted: Sequence::new(alloc),
     })
 }
 

@@ -24,13 +24,13 @@ use Rattle.sarif_runs.specs.declared.item.Item.{Item}
 use Rattle.sarif_runs.specs.declared.item.Item.TheVariants.{Sound, Bad, Skipped}
 use Rattle.sarif_runs.specs.Judging.{records_of, run_values}
 use Rattle.sarif_runs.specs.Placed.{Placed}
-use Rattle.sarif_suppress.specs.Limited.{all_spent}
+use Rattle.sarif_suppress.specs.Limited.{all_admitted}
 
 -- how many results each run has, where it has an array of them
 abbrev pub own_counts : List Placed → List (Option ℕ)
 own_counts runs = map (λ p. own_count p.run) runs
 
--- the drafts of all results of logs, where each has the entries that are used up before its finding
+-- the drafts of all results of logs, where each has the entries that admit its finding
 abbrev pub current_drafts : File → List Placed → List Draft
 current_drafts file runs =
     drafts_by (listing_of file) (applied_of file) (limited_once file (records_of runs))
@@ -73,7 +73,7 @@ pub record AreBaselineCopies (runs : List Placed) (copies : BaselineCopies) : Ty
 -- what changes for the findings of these runs of logs, and the drafts of their copies, where they are made again
 pub record AreChangesOnce (file : File) (runs : List Placed) (changes : ChangesOnce) : Type 0 where
   pub findings : AreChanges file (records_of (without_copies runs))
-      (all_spent file (records_of (without_copies runs)))
+      (all_admitted file (records_of (without_copies runs)))
       (flat_map results_of (run_values (without_copies runs))) changes.findings
   pub copies : put_drafts (marked (copies_of (records_of runs))
       (drafts_of file (records_of runs) (flat_map results_of (run_values runs)))) changes.copies.items
@@ -82,7 +82,7 @@ pub record AreChangesOnce (file : File) (runs : List Placed) (changes : ChangesO
 -- these runs of logs without their copies, what changes for their results, and what is needed of the copies
 pub record AreSplitLogs (file : File) (runs : List Placed) (split : SplitLogs) : Type 0 where
   pub changes : AreChanges file (records_of (without_copies runs))
-      (all_spent file (records_of (without_copies runs)))
+      (all_admitted file (records_of (without_copies runs)))
       (flat_map results_of (run_values (without_copies runs))) split.changes
   pub judged : IsJudged file false split.rest
   pub rest : placed_in split.rest ≡ without_copies runs

@@ -29,7 +29,7 @@ pub record IsFound (file : File) (runs : List Placed) (half : Half) : Type 0 whe
       ≡ drafts_by (listing_of file) (applied_of file) (records_of runs)
       (flat_map results_of (run_values runs))
 
--- the runs of logs, where each result has the entries that are used up before it
+-- the runs of logs, where each result has the entries that admit it
 pub record IsCurrent (file : File) (runs : List Placed) (half : Half) : Type 0 where
   pub opened : map placed_of half.runs.items ≡ runs
   pub records : half.records.items ≡ limited_records file runs

@@ -1,4 +1,4 @@
--- What entries that are used up change for results: the numbers of these entries, and the drafts without them.
+-- What entries with `max` change for the results that they admit: the numbers of these entries, and the drafts with them.
 use Rattle.std.specs.Prelude.{◌≡◌, ℕ, List, [], ◌∷◌, Option, Some, None}
 use Rattle.serde_json.specs.Data.{Data}
 use Rattle.sarif_entries.specs.File.{File}
@@ -8,7 +8,7 @@ use Rattle.sarif_prepare.specs.declared.changes.Changes.{Changes}
 use Rattle.sarif_prepare.specs.Once.{with_each}
 use Rattle.sarif_results.specs.Drafts.{applied_of, draft_by, drafts_by, members_in}
 use Rattle.sarif_results.specs.declared.draft.Draft.{Draft}
-use Rattle.sarif_suppress.specs.Limited.{with_spent}
+use Rattle.sarif_suppress.specs.Limited.{with_admitted}
 
 -- the draft of a current result with this record
 abbrev pub draft_of : File → Record → Data → Draft
@@ -20,12 +20,12 @@ drafts_of file rs ds = drafts_by (listing_of file) (applied_of file) rs ds
 
 -- ---- what changes
 
--- the draft of a result before which these entries are used up, if there are some
+-- the draft of a result that these entries admit, if there are some
 abbrev pub draft_again : File → Record → List ℕ → Data → Option Draft
 draft_again file r [] d = None
-draft_again file r (n ∷ ns) d = Some (draft_of file (with_spent r (n ∷ ns)) d)
+draft_again file r (n ∷ ns) d = Some (draft_of file (with_admitted r (n ∷ ns)) d)
 
--- the drafts of results before which entries are used up, in order
+-- the drafts of results that entries with `max` admit, in order
 abbrev pub drafts_again : File → List Record → List (List ℕ) → List Data → List (Option Draft)
 drafts_again file [] lists ds = []
 drafts_again file (r ∷ rs) [] ds = []
@@ -41,8 +41,8 @@ put_each put (x ∷ xs) [] = x ∷ xs
 put_each put (x ∷ xs) (y ∷ ys) = put x y ∷ put_each put xs ys
 
 -- the records with the entries of these numbers
-abbrev pub put_spent : List Record → List (List ℕ) → List Record
-put_spent rs lists = put_each with_spent rs lists
+abbrev pub put_admitted : List Record → List (List ℕ) → List Record
+put_admitted rs lists = put_each with_admitted rs lists
 
 abbrev pub put_draft : Draft → Option Draft → Draft
 put_draft draft None = draft
@@ -61,9 +61,9 @@ AreDraftsOf file rs lists ds drafts =
 -- these changes give these results the entries of these numbers
 pub record AreChanges (file : File) (rs : List Record) (lists : List (List ℕ)) (ds : List Data)
     (changes : Changes) : Type 0 where
-  pub records : put_spent rs changes.spent.items ≡ with_each rs lists
+  pub records : put_admitted rs changes.admitted.items ≡ with_each rs lists
   pub drafts : AreDraftsOf file rs lists ds changes.drafts.items
 
--- the result without the entries that are used up before it
-abbrev pub unspent : Record → Record
-unspent r = with_spent r []
+-- the result without the entries that admit it
+abbrev pub unadmitted : Record → Record
+unadmitted r = with_admitted r []

@@ -14,7 +14,7 @@ use Rattle.sarif_prepare.specs.declared.halves.Half.{Half}
 use Rattle.sarif_prepare.specs.declared.pairing.Paired.{Paired}
 use Rattle.sarif_prepare.specs.Internal.Baselines.{baseline_drafts, AreBaselines}
 use Rattle.sarif_prepare.specs.Internal.Halves.{IsCurrent, IsFound}
-use Rattle.sarif_prepare.specs.Internal.Limiting.{unspent}
+use Rattle.sarif_prepare.specs.Internal.Limiting.{unadmitted}
 use Rattle.sarif_log.specs.LogBy.{states_of, taken_of}
 use Rattle.sarif_prepare.specs.Kept.{standings_of}
 use Rattle.sarif_model.specs.Limits.{most_results, most_runs}
@@ -37,7 +37,7 @@ abbrev pub AreFound : File → List Placed → List Placed → Half → Baseline
 AreFound file current_runs baseline_runs current baselines =
     AreSides (IsFound file current_runs current) current_runs baseline_runs baselines
 
--- both sides once they are matched: the results of the logs have the entries that are used up before them
+-- both sides once they are matched: the results of the logs have the entries that admit them
 abbrev pub AreTogether : File → List Placed → List Placed → Half → Baselines → Type 0
 AreTogether file current_runs baseline_runs current baselines =
     AreSides (IsCurrent file current_runs current) current_runs baseline_runs baselines
@@ -52,7 +52,7 @@ pub record ArePaired (version : MatchingVersion) (rs : List Record) (baselines :
   pub left : (baseline_runs : List Placed) → AreBaselines baseline_runs baselines
       → paired.left.items ≡ not_taken paired.taken.items (baseline_drafts baseline_runs)
 
--- how the results of these runs of logs were matched, regardless of the entries that are used up before their results
+-- how the results of these runs of logs were matched, regardless of the entries that admit their results
 abbrev pub IsPaired : MatchingVersion → Half → Baselines → Paired → Type 0
 IsPaired version current baselines paired =
-    ArePaired version (map unspent current.records.items) baselines paired
+    ArePaired version (map unadmitted current.records.items) baselines paired

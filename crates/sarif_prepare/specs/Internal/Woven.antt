@@ -18,7 +18,7 @@ use Rattle.sarif_prepare.specs.Internal.Apart.{current_drafts, AreBaselineCopies
 use Rattle.sarif_prepare.specs.Internal.Baselines.{IsLeft}
 use Rattle.sarif_prepare.specs.Internal.Together.{AreFound}
 use Rattle.sarif_prepare.specs.Internal.Limiting.{AreChanges}
-use Rattle.sarif_suppress.specs.Limited.{all_spent}
+use Rattle.sarif_suppress.specs.Limited.{all_admitted}
 use Rattle.sarif_prepare.specs.declared.once.SplitSides.{SplitSides}
 use Rattle.sarif_prepare.specs.declared.woven.CurrentWoven.{CurrentWoven}
 use Rattle.sarif_prepare.specs.declared.woven.LeftWoven.{LeftWoven}
@@ -49,7 +49,7 @@ pub record AreApart (file : File) (current_runs baseline_runs : List Placed) (sp
   pub found : AreFound file (without_copies current_runs) (without_copies baseline_runs)
       split.current split.baselines
   pub changes : AreChanges file (records_of (without_copies current_runs))
-      (all_spent file (records_of (without_copies current_runs)))
+      (all_admitted file (records_of (without_copies current_runs)))
       (flat_map results_of (run_values (without_copies current_runs))) split.changes
   pub current_copies : AreCurrentCopies file current_runs split.current_copies
   pub baseline_copies : AreBaselineCopies baseline_runs split.baseline_copies

@@ -1,4 +1,4 @@
-use Rattle.std.proofs.Common.{rules, ◌≡◌, ◌≤◌, ap, sym, ◌∙◌, map, length, Bor, true, false, [], ◌∷◌, ◌++◌, arith}
+use Rattle.std.proofs.Common.{rules, ◌≡◌, ◌≤◌, ap, ◌∙◌, map, length, Bor, true, false, [], ◌∷◌, ◌++◌, arith}
 use Rattle.std.proofs.lemmas.List.{map-append, length-map}
 use Rattle.indexmap.specs.IndexSet.{contains}
 use Rattle.sarif_model.specs.Limits.{most_entries}

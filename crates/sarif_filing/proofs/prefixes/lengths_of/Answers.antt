@@ -1,6 +1,6 @@
 use Rattle.std.proofs.Common.{rules, ◌≡◌, ◌||◌, ◌+◌, Bool, true, false, take, None, Some, refl, sym, ap, ◌∙◌}
 use Rattle.std.proofs.lemmas.List.Folds.{list_any_more}
-use Rattle.sarif_entries.specs.Internal.Filing.{prefix_key}
+use Rattle.sarif_entries.specs.Internal.Filing.{filed, prefix_key}
 use Rattle.sarif_filing.specs.Internal.Prefixes.{is_listed, is_length, has_length}
 use Rattle.sarif_filing.proofs.prefixes.lengths_of.Goals as goal
 use Rattle.sarif_filing.proofs.prefixes.lengths_of.Goals.{in-Some+in_ok-mark_length, in_default}
@@ -19,10 +19,10 @@ loop-entry-preserved c = λ n.
     let added : is_listed c.match-prefix_key.lengths.items n ≡ (has_length n c.entry-item.result || is_listed c.loop-entry.lengths.items n) =
     elim c.match-prefix_key.branch [
       | in-Some+in_ok-mark_length w ↦
-          let key : prefix_key c.entry-item.result.conditions ≡ Some w.as_str.result.now = search rules in
+          let key : filed c.entry-item.result (prefix_key c.entry-item.result.conditions) ≡ Some w.as_str.result.now = search rules in
           rw (w.lengths-is, key) (w.in_ok-mark_length.ensures n)
       | in_default w ↦
-          let key : prefix_key c.entry-item.result.conditions ≡ None = search rules in
+          let key : filed c.entry-item.result (prefix_key c.entry-item.result.conditions) ≡ None = search rules in
           rw (w.lengths-is, key) refl
     ]
     in

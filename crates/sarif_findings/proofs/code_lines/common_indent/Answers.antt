@@ -1,4 +1,4 @@
-use Rattle.std.proofs.Common.{◌≡◌, ◌+◌, ◌∙◌, ap, drop, map, filter}
+use Rattle.std.proofs.Common.{◌+◌, ◌∙◌, ap, drop, map, filter}
 use Rattle.sarif_findings.specs.Code.{indent_of, is_written}
 use Rattle.sarif_findings.specs.Internal.CodeParts.{least_with, line_of}
 use Rattle.sarif_findings.proofs.CodeLines.{least_skip, least_step, lines_left}

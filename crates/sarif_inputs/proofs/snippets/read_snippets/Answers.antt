@@ -1,5 +1,5 @@
-use Rattle.std.proofs.Common.{◌≡◌, map, sym, ap, ◌∙◌}
-use Rattle.sarif_inputs.specs.Snippets.{compares_snippets, with_regions_if}
+use Rattle.std.proofs.Common.{map, sym, ap, ◌∙◌}
+use Rattle.sarif_inputs.specs.Snippets.{with_regions_if}
 use Rattle.sarif_runs.specs.Internal.Opened.{placed_of}
 use Rattle.sarif_inputs.proofs.ReadAgain.{maps_apart}
 use Rattle.sarif_inputs.proofs.snippets.read_snippets.Goals as goal

@@ -1,8 +1,6 @@
-use Rattle.std.proofs.Common.{◌≡◌, ◌∙◌, ◌<◌, ◌≤◌, false, nat_lt, sym, length, inr, subst, arith}
-use Rattle.std.proofs.lemmas.Bool.Decides.{nat_tests}
+use Rattle.std.proofs.Common.{◌∙◌, ◌<◌, sym, length, inr, subst}
 use Rattle.json.specs.Layout.{pretty}
 use Rattle.sarif_model.specs.Limits.{most_bytes}
-use Rattle.sarif_known.specs.Internal.Tokens.{least_bytes}
 use Rattle.sarif_known.proofs.Lengths.{long_enough, short_enough}
 use Rattle.sarif_known.proofs.known_run.push_artifact.Goals as goal
 

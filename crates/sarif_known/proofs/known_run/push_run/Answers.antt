@@ -1,4 +1,4 @@
-use Rattle.std.proofs.Common.{◌≡◌, ◌++◌, ◌∙◌, List, map, ap, sym, subst}
+use Rattle.std.proofs.Common.{◌++◌, ◌∙◌, List, map, ap, sym, subst}
 use Rattle.json.specs.Layout.{pretty}
 use Rattle.sarif_model.specs.declared.record.Record.{Record}
 use Rattle.sarif_known.specs.Chosen.{chosen_of, known_as, run_as}

@@ -1,5 +1,4 @@
 use Rattle.std.proofs.Common.{◌≡◌, ◌∙◌, ap, sym, length, map}
-use Rattle.sarif_evidence.specs.declared.version.MatchingVersion.{MatchingVersion}
 use Rattle.sarif_known.specs.Chosen.{all_chosen}
 use Rattle.sarif_known.specs.Internal.Groups.{groups_of, side_by_side, texts_of}
 use Rattle.sarif_known.specs.Order.{in_turn, runs_of_tool}

@@ -1,9 +1,16 @@
-use Rattle.std.proofs.Common.{rules, ◌≡◌, ◌≤◌, ℕ, List, Option, IfOk, length, subst, sym}
+use Rattle.std.proofs.Common.{rules, ◌≡◌, ◌≤◌, ℕ, List, Option, IfOk, length, subst, sym, ◌∙◌}
 use Rattle.sarif_model.specs.declared.record.Record.{Record}
 use Rattle.sarif_model.specs.Limits.{most_results}
 use Rattle.sarif_match.specs.Partners.{partners_after}
+use Rattle.sarif_match.proofs.NoBaseline.{nobody_from_end}
 use Rattle.sarif_match.proofs.FromEndLemmas.{below_marks, few_baselines, few_currents, few_marks, turned_is}
 use Rattle.sarif_match.proofs.matching.match_from_end.Goals as goal
+
+pub returns-then-is_empty : goal.returns-then-is_empty
+returns-then-is_empty g c =
+    let bs = c.args.baseline.now in
+    let short : length bs ≡ 0 = search rules in
+    c.of.ensures ∙ c.in_ok-progress.ensures.none ∙ sym (nobody_from_end c.args.current.now bs short)
 
 pub match_tiers-requires-clause-current : goal.match_tiers-requires-clause-current
 match_tiers-requires-clause-current g c =
@@ -24,7 +31,7 @@ turned-requires-clause-below g c =
     let cs = c.in_ok-short.short.current.items in
     let bs = c.in_ok-short.short.baseline.items in
     let tiers = c.in_ok-tiers.tiers.items in
-    let progress = c.in_ok-progress.progress in
+    let progress = c.in_ok-progress-2.progress in
     let told : progress.partners.items ≡ partners_after cs bs tiers = search rules in
     let marked : length progress.taken.items ≡ length bs = search rules in
     below_marks c.args.current.now c.args.baseline.now tiers cs bs progress.partners.items progress.taken.items c.in_ok-short.ensures told marked
@@ -34,7 +41,7 @@ turned-requires-clause-few g c =
     let cs = c.in_ok-short.short.current.items in
     let bs = c.in_ok-short.short.baseline.items in
     let tiers = c.in_ok-tiers.tiers.items in
-    let progress = c.in_ok-progress.progress in
+    let progress = c.in_ok-progress-2.progress in
     let told : progress.partners.items ≡ partners_after cs bs tiers = search rules in
     let marked : length progress.taken.items ≡ length bs = search rules in
     few_marks c.args.current.now c.args.baseline.now tiers cs bs progress.partners.items progress.taken.items c.in_ok-short.ensures
@@ -45,7 +52,7 @@ returns g c =
     let cs = c.in_ok-short.short.current.items in
     let bs = c.in_ok-short.short.baseline.items in
     let tiers = c.in_ok-tiers.tiers.items in
-    let progress = c.in_ok-progress.progress in
+    let progress = c.in_ok-progress-2.progress in
     let told : progress.partners.items ≡ partners_after cs bs tiers = search rules in
     let marked : length progress.taken.items ≡ length bs = search rules in
     subst (λ (l : List (Option ℕ)). IfOk c.turned.result (λ matching. matching ≡ l))

@@ -6,7 +6,7 @@ ghost use Rattle.sarif_members.specs.Regions as said;
 use super::super::region::{RegionAndSnippet, have_same_lines, is_all_blank};
 use crate::node_members::{first_element, kept_member, text_of, unsigned_of};
 use json_parts::Node;
-use sarif_model::{Region, copy_if_there};
+use sarif_model::{Region, Text};
 use std::alloc::{AllocError, Global};
 
 /// The member `name` of a value that may be missing.
@@ -96,6 +96,16 @@ fn find_snippet<'a>(
     }
 }
 
+/// A copy of a snippet, if there is one. No digest of it is made, since few merges look snippets up.
+fn copy_snippet(alloc: Global, snippet: Option<&str>) -> Result<Option<Text>, AllocError>
+    ensures { IfOk result (λ copy. copy ≡ option_map (λ s. s.now) snippet.entry) }
+{
+    match snippet {
+        None => Ok(None),
+        Some(text) => Ok(Some(Text::from_string(String::from_str(alloc, text)?)?)),
+    }
+}
+
 /// The region of a physical location and its snippet.
 fn region_within(
     alloc: Global,
@@ -109,7 +119,7 @@ fn region_within(
     let snippet = find_snippet(&region, &context);
     Ok(RegionAndSnippet {
         region: read_lines(&region),
-        snippet: copy_if_there(alloc, snippet)?,
+        snippet: copy_snippet(alloc, snippet)?,
     })
 }
 

@@ -1,7 +1,5 @@
-use Rattle.std.proofs.Common.{◌≡◌, ◌≤◌, ◌+◌, ◌++◌, length, refl, ap, arith}
+use Rattle.std.proofs.Common.{◌≤◌, ◌+◌, ◌++◌, length, refl, ap, arith}
 use Rattle.std.proofs.lemmas.List.{length-drop, length-take}
-use Rattle.std.specs.Borrow.{Bor}
-use Rattle.sarif_findings.specs.declared.finding.Finding.{Finding}
 use Rattle.sarif_page.specs.HtmlRows.{file_groups, most_grouped}
 use Rattle.sarif_page.specs.Internal.ByFile.{findings_in}
 use Rattle.sarif_page.specs.Internal.Groups.{groups_in}

@@ -1,5 +1,4 @@
 use Rattle.std.proofs.Common.{◌≡◌, ◌≤◌, ◌+◌, drop}
-use Rattle.std.specs.List.{count_by}
 use Rattle.sarif_page.specs.HtmlGroups.{number_of}
 use Rattle.sarif_page.specs.Internal.ByFile.{findings_in}
 use Rattle.sarif_page.proofs.html_groups.number_of.Given as goal

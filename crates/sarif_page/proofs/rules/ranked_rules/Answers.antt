@@ -1,9 +1,9 @@
-use Rattle.std.proofs.Common.{◌≡◌, ◌+◌, ◌∷◌, [], drop, map, take, ap, sym, ◌∙◌, arith}
+use Rattle.std.proofs.Common.{◌≡◌, ◌+◌, ◌∷◌, drop, map, take, ap, sym, ◌∙◌, arith}
 use Rattle.std.specs.List.{count_by}
 use Rattle.std.proofs.lemmas.List.{drop_more, drop_all}
 use Rattle.sarif_page.specs.HtmlRules.{all_placed, is_alike, most_rules, placed, rule_among}
 use Rattle.sarif_page.specs.Internal.ByFile.{findings_in}
-use Rattle.sarif_page.specs.Internal.Rules.{rule_in, rules_in}
+use Rattle.sarif_page.specs.Internal.Rules.{rules_in}
 use Rattle.sarif_page.proofs.RulesMore.{kept_again, made_rule, of_key, placed_next}
 use Rattle.sarif_page.proofs.rules.ranked_rules.Goals as goal
 

@@ -4,6 +4,6 @@ use Rattle.sarif_prepare.proofs.limiting.list_findings.Given as goal
 
 abbrev pub invariant-loop-is_copy : goal.invariant-loop-is_copy
 invariant-loop-is_copy l = record {
-  long : length l.drafts.rest.items ≡ length (drop l.is_copy-index l.copies);
-  findings : l.findings.items ++ unmarked (drop l.is_copy-index l.copies) l.drafts.rest.items ≡ unmarked l.copies l.fn.drafts.items;
+  long : length l.records.rest.items ≡ length (drop l.is_copy-index l.copies);
+  findings : l.findings.items ++ unmarked (drop l.is_copy-index l.copies) l.records.rest.items ≡ unmarked l.copies l.fn.records.items;
 }

@@ -8,7 +8,7 @@ use Rattle.sarif_log.specs.Internal.Texts.{own_count, ArePartsOf}
 use Rattle.sarif_prepare.specs.Internal.Baselines.{baseline_drafts, IsLeft}
 use Rattle.sarif_log.specs.LogBy.{limited_records, taken_of}
 use Rattle.sarif_log.proofs.Sides.{taken_long, without_results}
-use Rattle.sarif_prepare.specs.Internal.Limiting.{unspent}
+use Rattle.sarif_prepare.specs.Internal.Limiting.{unadmitted}
 use Rattle.sarif_prepare.proofs.MatchedRecords.{lent_sides, limited_results, matched_records}
 use Rattle.sarif_prepare.proofs.WrittenSides.{current_long, current_side, left_few, left_is_side, written}
 use Rattle.sarif_prepare.proofs.preparing.prepare_sides.Goals as goal
@@ -24,7 +24,7 @@ tell_sides-requires-clause-together g c κs within = (
 pub left_side-requires-clause-taken : goal.left_side-requires-clause-taken
 left_side-requires-clause-taken g c =
     ap length (c.deref.ensures.value ∙ c.requires.paired.taken)
-    ∙ taken_long c.args.asked.now.options.now.checks.matching (map unspent c.args.sides.current.records.items) c.args.sides.baselines.records.items
+    ∙ taken_long c.args.asked.now.options.now.checks.matching (map unadmitted c.args.sides.current.records.items) c.args.sides.baselines.records.items
 
 pub invariant_of-result : goal.invariant_of-result
 invariant_of-result g c =
@@ -41,7 +41,7 @@ invariant_of-result g c =
     (q.left before h.are_baselines ∙ ap (λ ts. not_taken ts (baseline_drafts before)) (sym c.deref.ensures.value)) in
     let taken_all =
     ap length (c.deref.ensures.value ∙ q.taken)
-    ∙ taken_long c.args.asked.now.options.now.checks.matching (map unspent c.args.sides.current.records.items) c.args.sides.baselines.records.items
+    ∙ taken_long c.args.asked.now.options.now.checks.matching (map unadmitted c.args.sides.current.records.items) c.args.sides.baselines.records.items
     ∙ ap length h.are_baselines.records in
     let many = current_long file now before c.args.sides.current c.args.sides.baselines h in
     let drafts = ap length c.in_ok-side.ensures.drafts in

@@ -12,7 +12,7 @@ use Rattle.sarif_log.specs.Told.{if_asked}
 use Rattle.sarif_prepare.specs.Asked.{reporting_in}
 use Rattle.sarif_prepare.proofs.LeftTexts.{long}
 use Rattle.sarif_log.proofs.Sides.{states_long, taken_long}
-use Rattle.sarif_prepare.specs.Internal.Limiting.{unspent}
+use Rattle.sarif_prepare.specs.Internal.Limiting.{unadmitted}
 use Rattle.sarif_prepare.proofs.MatchedRecords.{matched_records}
 use Rattle.sarif_prepare.proofs.ToldSides.{sides_told}
 use Rattle.sarif_prepare.proofs.WrittenSides.{baseline_long, current_long}
@@ -28,7 +28,7 @@ tell_current-requires-clause-drafts g c κs within =
 pub tell_current-requires-clause-states : goal.tell_current-requires-clause-states
 tell_current-requires-clause-states g c κs within =
     let h = c.requires.together.3 in
-    let cs = map unspent c.args.sides.now.current.now.records.items in
+    let cs = map unadmitted c.args.sides.now.current.now.records.items in
     let bs = c.args.sides.now.baselines.now.records.items in
     ap length (c.deref.ensures.value ∙ c.requires.paired.states) ∙ length-map (states_of c.args.asked.now.options.now.checks.matching cs bs) Some
     ∙ states_long c.args.asked.now.options.now.checks.matching bs (partners_in c.args.asked.now.options.now.checks.matching cs bs) 0 cs
@@ -40,7 +40,7 @@ tell_left-requires-clause-taken g c κs within =
     let b = c.requires.together.3.are_baselines in
     let spots = c.args.sides.now.baselines.now.spots.items in
     ap length (c.deref-2.ensures.value ∙ c.requires.paired.taken)
-    ∙ taken_long c.args.asked.now.options.now.checks.matching (map unspent c.args.sides.now.current.now.records.items) c.args.sides.now.baselines.now.records.items
+    ∙ taken_long c.args.asked.now.options.now.checks.matching (map unadmitted c.args.sides.now.current.now.records.items) c.args.sides.now.baselines.now.records.items
     ∙ ap length b.records ∙ b.count ∙ sym (ap length b.spots) ∙ length-map spots (found_at c.requires.together.2)
 
 pub tell_left-requires-clause-drafts : goal.tell_left-requires-clause-drafts
@@ -52,7 +52,7 @@ tell_left-requires-clause-drafts g c κs within =
     let taken = c.args.sides.now.paired.now.taken.items in
     let taken_all =
     ap length q.taken
-    ∙ taken_long c.args.asked.now.options.now.checks.matching (map unspent c.args.sides.now.current.now.records.items) c.args.sides.now.baselines.now.records.items
+    ∙ taken_long c.args.asked.now.options.now.checks.matching (map unadmitted c.args.sides.now.current.now.records.items) c.args.sides.now.baselines.now.records.items
     ∙ ap length b.records in
     let spots_all = sym (length-map spots (found_at before)) ∙ ap length b.spots ∙ sym b.count in
     ap length (c.deref-3.ensures.value ∙ q.left before b)

@@ -1,4 +1,4 @@
-use Rattle.std.proofs.Common.{◌≡◌, ◌++◌, ◌-◌}
+use Rattle.std.proofs.Common.{◌≡◌, ◌++◌}
 use Rattle.sarif_runs.specs.Internal.Spots.{spots_in}
 use Rattle.sarif_runs.proofs.spots.push_spots.Given as goal
 

@@ -2,7 +2,8 @@ use Rattle.std.proofs.Common.{◌∙◌}
 use Rattle.std.specs.BTreeSet.{keys}
 use Rattle.sarif_entries.specs.Matching.{matches}
 use Rattle.sarif_suppress.specs.Internal.Numbers.{passes_at}
-use Rattle.sarif_suppress.proofs.Rising.{found_step, get_or_any}
+use Rattle.sarif_filing.proofs.Numbered.{get_or_any}
+use Rattle.sarif_suppress.proofs.Rising.{found_step}
 use Rattle.sarif_suppress.proofs.select.add_matching.Goals as goal
 
 pub loop-number-preserved : goal.loop-number-preserved

@@ -1,7 +1,7 @@
 use Rattle.std.proofs.Common.{◌∙◌}
 use Rattle.std.specs.BTreeSet.{keys}
-use Rattle.sarif_suppress.proofs.Rising.{get_or_any}
-use Rattle.sarif_suppress.proofs.Spent.{set_step}
+use Rattle.sarif_filing.proofs.Numbered.{get_or_any}
+use Rattle.sarif_suppress.proofs.Admitted.{set_step}
 use Rattle.sarif_suppress.proofs.select.set_of.Goals as goal
 
 pub loop-number-preserved : goal.loop-number-preserved

@@ -29,20 +29,24 @@ returns g c = λ entries table.
     let rule = c.in_ok-extend_from_slice-3.ensures.items in
     let of_tool = c.numbers_for-2.ensures in
     let tool = c.in_ok-extend_from_slice-4.ensures.items in
+    let admitted = c.as_slice-3.ensures in
+    let limited = c.in_ok-add_with_numbers.ensures in
     let of_others = c.deref.ensures.value in
     let others = c.in_ok-extend_from_slice-5.ensures.items in
     let items : c.extend_from_slice-5.new.self.items
     ≡
-    (((((((option_map_or (numbers_at nat_eq t.guids) r.guid []
+    ((((((((option_map_or (numbers_at nat_eq t.guids) r.guid []
     ++ option_map_or (λ text. found_within t.snippets (packed text) (keys_beside r)) r.snippet [])
     ++ flat_map (numbers_at is_pair t.pairs.full) r.full)
     ++ flat_map (numbers_at is_pair t.pairs.partial) r.partial)
     ++ flat_map (numbers_at (pointwise bytes_eq) t.texts.messages) (message_keys r))
     ++ option_map_or (numbers_at bytes_eq t.texts.uris) r.place.uri []) ++ numbers_at bytes_eq t.texts.rules r.rule_id)
-    ++ numbers_at bytes_eq t.texts.tools r.tool) ++ t.others.items =
+    ++ numbers_at bytes_eq t.texts.tools r.tool) ++ flat_map (numbers_at nat_eq t.limited) r.admitted) ++ t.others.items =
     rw (
       others,
       of_others,
+      limited,
+      admitted,
       tool,
       of_tool,
       rule,

@@ -6,5 +6,6 @@ returns g c = record {
   snippets = c.in_ok-snippets.ensures;
   pairs = c.in_ok-pairs.ensures;
   texts = c.in_ok-texts.ensures;
+  limited = c.in_ok-limited.ensures;
   rest = c.in_ok-others.ensures;
 }

@@ -1,5 +1,5 @@
 -- The number of bytes has grown by those of the token.
-use Rattle.std.proofs.Common.{◌≡◌, ◌-◌, ◌^◌, ◌++◌, ◌∷◌, [], min, List, sym, subst, ◌∙◌, ap, ◌+◌}
+use Rattle.std.proofs.Common.{◌≡◌, ◌-◌, ◌^◌, min, List, sym, subst, ◌∙◌, ap, ◌+◌}
 use Rattle.json.specs.Reads.{token_of}
 use Rattle.json.specs.Token.{Token}
 use Rattle.sarif_known.specs.Internal.Tokens.{least_bytes}
