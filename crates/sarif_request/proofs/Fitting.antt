@@ -1,5 +1,5 @@
 -- What a request has for a new suppression file, since options go together.
-use Rattle.std.proofs.Common.{◌≡◌, ◌∙◌, ◌≤◌, ℕ, Bool, true, false, not, ◌&&◌, ◌||◌, nat_lt, List, Option, Some, None, Ok, IfSome, is_some, codes, refl, sym, ap, ap₂, subst, arith, if◌then◌else◌, true≢false}
+use Rattle.std.proofs.Common.{◌≡◌, ◌∙◌, ◌≤◌, ℕ, Bool, true, false, not, ◌||◌, nat_lt, List, Option, Some, None, Ok, IfSome, is_some, codes, refl, sym, ap, ap₂, subst, arith, if◌then◌else◌, true≢false}
 use Rattle.std.proofs.lemmas.Bool.Decides.{nat_tests}
 use Rattle.std.specs.Option.{option_or}
 use Rattle.clap.specs.Words.{Row, Text, first_of, matches_of, one_of}

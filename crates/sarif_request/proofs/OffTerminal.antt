@@ -1,6 +1,5 @@
 -- A request is served as it is given if no standard stream is a terminal.
 use Rattle.std.proofs.Common.{◌≡◌, ◌∙◌, ◌||◌, ℕ, Bool, true, false, List, Option, None, Ok, refl, sym, ap}
-use Rattle.clap.specs.Words.{matches_of}
 use Rattle.sarif_shown.specs.declared.terminal_lines.Screen.{Screen}
 use Rattle.sarif_request.specs.declared.request.Request.{Request}
 use Rattle.sarif_request.specs.Terminal.{at_terminal, no_terminal}

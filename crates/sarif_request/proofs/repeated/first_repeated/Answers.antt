@@ -1,4 +1,4 @@
-use Rattle.std.proofs.Common.{rules, ◌≡◌, ◌-◌, true, false, not, ◌∷◌, drop, Bor, sym, ◌∙◌}
+use Rattle.std.proofs.Common.{rules, ◌≡◌, ◌-◌, true, false, ◌∷◌, drop, Bor, sym, ◌∙◌}
 use Rattle.sarif_model.specs.declared.text.Text.{Text}
 use Rattle.sarif_request.specs.Names.{is_among}
 use Rattle.sarif_request.proofs.Repeats.{had, had_not, left_from, not_repeated, one_more, repeated}

@@ -1,4 +1,4 @@
-use Rattle.std.proofs.Common.{◌≡◌, ◌+◌, ◌++◌, ◌||◌, [], ◌∷◌, List, Bool, false, drop, get_or, length, length-append, map, ap, ◌∙◌, arith}
+use Rattle.std.proofs.Common.{◌≡◌, ◌+◌, ◌++◌, ◌||◌, [], ◌∷◌, List, Bool, false, drop, get_or, length, length-append, map, ap, ◌∙◌}
 use Rattle.sarif_model.specs.declared.record.Record.{Record}
 use Rattle.sarif_copies.specs.Copies.{has_alike}
 use Rattle.sarif_known.specs.Chosen.{all_chosen}

@@ -1,0 +1,4 @@
+pub mod FilesMore
+pub mod GateOfChange
+pub mod HitsMore
+pub mod TextEnds
