@@ -1,5 +1,5 @@
 -- The drafts of findings and of copies are those of all results.
-use Rattle.std.proofs.Common.{◌≡◌, ◌≤◌, ◌+◌, suc, Bool, true, false, List, [], ◌∷◌, ◌++◌, map, length, Option, Some, None, refl, sym, ap, ◌∙◌, subst, arith}
+use Rattle.std.proofs.Common.{◌≡◌, ◌≤◌, suc, Bool, true, false, List, [], ◌∷◌, ◌++◌, map, length, Option, Some, None, refl, sym, ap, ◌∙◌, subst, arith}
 use Rattle.std.proofs.lemmas.List.{length-map, map-append}
 use Rattle.std.specs.List.{AllByRecursion, flat_map}
 use Rattle.serde_json.specs.Data.{Data}
@@ -9,7 +9,6 @@ use Rattle.sarif_log.specs.Internal.Texts.{present_results}
 use Rattle.sarif_log.specs.LogBy.{limited_records, listing_of}
 use Rattle.sarif_log.proofs.Limits.{all_admitted_long}
 use Rattle.sarif_log.proofs.Sides.{drafts_long, records_present, results_long}
-use Rattle.sarif_model.specs.declared.record.Record.{Record}
 use Rattle.sarif_model.specs.Run.{results_of, results_total}
 use Rattle.sarif_once.specs.Once.{copy_marks, marked, marks_in, without_copies}
 use Rattle.sarif_once.proofs.Items.{all_items_left, each_left, outcomes_total}

@@ -1,5 +1,5 @@
 -- The matched merge, as what is made for later merges sees it.
-use Rattle.std.proofs.Common.{◌≡◌, ◌⊎◌, inl, inr, ◌+◌, ◌++◌, ℕ, suc, Bool, List, [], ◌∷◌, Option, Some, None, map, length, length-append, refl, sym, ap, ◌∙◌, arith}
+use Rattle.std.proofs.Common.{◌≡◌, ◌⊎◌, inl, inr, ◌+◌, ◌++◌, ℕ, suc, List, [], ◌∷◌, Option, Some, None, map, length, length-append, refl, sym, ap, ◌∙◌, arith}
 use Rattle.serde_json.specs.Data.{Data}
 use Rattle.sarif_model.specs.declared.record.Record.{Record}
 use Rattle.sarif_model.specs.Run.{present, results_of}
@@ -30,7 +30,7 @@ use Rattle.sarif_prepare.specs.declared.halves.Half.{Half}
 use Rattle.sarif_prepare.specs.declared.pairing.Paired.{Paired}
 use Rattle.sarif_prepare.specs.Internal.LeftParts.{present_counts as placed_counts}
 use Rattle.sarif_prepare.specs.Chosen.{checked_merge, chosen_merge, hits_alone, marks_in, misfit_in, with_choice}
-use Rattle.sarif_prepare.specs.Kept.{merge_of, standings_from, standings_of, IsUnkept}
+use Rattle.sarif_prepare.specs.Kept.{standings_from, standings_of, IsUnkept}
 use Rattle.sarif_choice.specs.declared.choice.Choosing.{Choosing}
 use Rattle.sarif_prepare.proofs.MarkedSides.{marks_long}
 use Rattle.sarif_accept.specs.Choosing.{Marks}

@@ -1,5 +1,5 @@
 -- The results of judged logs that entries with `max` admit.
-use Rattle.std.proofs.Common.{◌≡◌, ℕ, false, Bool, List, [], ◌∷◌, map, length, Option, Bor, refl, sym, ap, ◌∙◌, subst, arith}
+use Rattle.std.proofs.Common.{◌≡◌, ℕ, false, Bool, List, map, length, Option, Bor, sym, ap, ◌∙◌, subst}
 use Rattle.std.proofs.lemmas.List.{length-map}
 use Rattle.std.specs.List.{All, flat_map}
 use Rattle.serde_json.specs.Data.{Data}
@@ -11,7 +11,6 @@ use Rattle.sarif_once.proofs.Marks.{marked_each}
 use Rattle.sarif_read.specs.Unmarked.{unmarked}
 use Rattle.sarif_read.proofs.Only.{unmarked_map}
 use Rattle.sarif_results.specs.Internal.Judged.{placed_in, IsJudged}
-use Rattle.sarif_results.specs.Internal.Outcomes.{all_outcomes}
 use Rattle.sarif_results.specs.declared.draft.Draft.{Draft}
 use Rattle.sarif_results.specs.declared.judged.Judged.{Judged}
 use Rattle.sarif_results.specs.declared.outcome.Outcome.{Outcome}

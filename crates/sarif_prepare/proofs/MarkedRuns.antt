@@ -1,7 +1,7 @@
 -- The marks of the results of a merged log, from the drafts of its results.
 use Rattle.std.proofs.Common.{◌≡◌, ◌+◌, ◌<◌, ◌≤◌, ◌++◌, ℕ, zero, suc, Bool, true, false, ◌&&◌, not, List, [], ◌∷◌, Option, Some, None, map, take, drop, length, get_or, length-append, append_assoc, add-one, codes, refl, sym, ap, ◌∙◌, arith}
 use Rattle.std.proofs.Math.Seq.{take-append_seam, drop-append_seam}
-use Rattle.std.proofs.lemmas.List.{append-nil, map-append, take-map, drop-map, drop_all, drop_more, length-map, length-take-le, length-drop}
+use Rattle.std.proofs.lemmas.List.{append-nil, take-map, drop-map, drop_all, drop_more, length-take-le, length-drop}
 use Rattle.std.specs.Option.{option_map_or}
 use Rattle.std.specs.Prelude.{flat_map, if◌then◌else◌, option_and_then}
 use Rattle.std.specs.List.{AllByRecursion, cons_option}
@@ -12,7 +12,7 @@ use Rattle.serde_json.proofs.Views.{get_member-put}
 use Rattle.sarif_choice.specs.Choice.{is_chosen}
 use Rattle.sarif_choice.specs.declared.choice.Choice.{Choice}
 use Rattle.sarif_findings.specs.Lookup.{elements_in}
-use Rattle.sarif_findings.specs.Reported.{are_shown, finding_if, finding_of}
+use Rattle.sarif_findings.specs.Reported.{are_shown, finding_of}
 use Rattle.sarif_findings.specs.declared.finding.Finding.{Finding}
 use Rattle.sarif_findings.specs.declared.reporting.Reporting.{Reporting}
 use Rattle.sarif_log.specs.MergedRuns.{annotated_items, bare, merged_run, merged_runs, with_results, written, written_all}
@@ -30,7 +30,7 @@ use Rattle.sarif_prepare.proofs.RunsAlike.{AreAlike}
 use Rattle.sarif_prepare.proofs.ToldResults.{draft_told}
 use Rattle.sarif_prepare.proofs.ToldRuns.{alike, no_results, with_long}
 use Rattle.sarif_results.specs.declared.draft.Draft.{Draft}
-use Rattle.sarif_results.specs.Drafts.{draft_by, drafts_by, members_in, IsObject, IsRun, Listing}
+use Rattle.sarif_results.specs.Drafts.{drafts_by, IsObject, IsRun, Listing}
 use Rattle.sarif_suppress.specs.declared.suppressions.Applied.{Applied}
 
 -- ---- spreading the marks of those that are shown

@@ -1,11 +1,10 @@
 -- What matching sees of the results of logs, whose records have the entries that admit them.
-use Rattle.std.proofs.Common.{◌≡◌, ◌+◌, List, map, length, sym, ap, ◌∙◌, subst}
+use Rattle.std.proofs.Common.{◌≡◌, List, map, length, sym, ap, ◌∙◌, subst}
 use Rattle.std.specs.List.{flat_map}
 use Rattle.sarif_entries.specs.File.{File}
 use Rattle.sarif_model.specs.Run.{results_of, results_total}
-use Rattle.sarif_model.specs.declared.record.Record.{Record}
 use Rattle.sarif_log.specs.LogBy.{limited_records}
-use Rattle.sarif_log.proofs.Limits.{all_admitted_long, limited_long, records_unadmitted}
+use Rattle.sarif_log.proofs.Limits.{limited_long, records_unadmitted}
 use Rattle.sarif_log.proofs.Sides.{results_long}
 use Rattle.sarif_prepare.specs.declared.baselines.Baselines.{Baselines}
 use Rattle.sarif_prepare.specs.declared.halves.Half.{Half}

@@ -35,7 +35,7 @@ use Rattle.sarif_prepare.proofs.LeftTexts.{counts, left_total, left_written, lon
 use Rattle.sarif_log.proofs.Limits.{limited_long}
 use Rattle.sarif_prepare.specs.Internal.Limiting.{unadmitted}
 use Rattle.sarif_prepare.proofs.MatchedRecords.{limited_results, limited_total, matched_records}
-use Rattle.sarif_log.proofs.Sides.{drafts_long, few_present, own_total, results_long, states_long, taken_long}
+use Rattle.sarif_log.proofs.Sides.{drafts_long, few_present, own_total, states_long, taken_long}
 
 -- ---- the runs of logs
 

@@ -183,8 +183,8 @@ struct Admission<S: BuildHasher + Copy = RandomState> {
     live: Suppressions<S>,
     /// How often a table had an entry that was used up.
     wasted: usize,
-    /// How often that may happen before the tables are made again. It doubles each time, so that this is done few times,
-    /// however long the conditions are.
+    /// How often that may happen before the tables are made again. It is four times as often each time, so that this is
+    /// done few times, however long the conditions are.
     allowed: usize,
 }
 
@@ -224,7 +224,7 @@ impl<S: BuildHasher + Copy> Admission<S> {
         let old = std::mem::replace(&mut self.live, again);
         drop(old);
         self.wasted = 0;
-        self.allowed = self.allowed.saturating_add(self.allowed);
+        self.allowed = self.allowed.saturating_mul(4);
         Ok(())
     }
 

@@ -1,10 +1,6 @@
 use Rattle.std.proofs.Common.{false, map, length, ap, ◌∙◌}
-use Rattle.std.specs.List.{flat_map}
-use Rattle.sarif_copies.specs.Copies.{copies_of}
-use Rattle.sarif_model.specs.Run.{results_of}
 use Rattle.sarif_results.specs.Internal.Judged.{placed_in}
 use Rattle.sarif_runs.specs.Internal.Opened.{placed_of}
-use Rattle.sarif_runs.specs.Judging.{records_of, run_values}
 use Rattle.sarif_runs.specs.Unmarked.{runs_without}
 use Rattle.sarif_once.specs.Once.{marked}
 use Rattle.sarif_results.specs.Internal.Outcomes.{all_outcomes}

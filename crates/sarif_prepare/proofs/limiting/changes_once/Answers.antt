@@ -2,12 +2,12 @@ use Rattle.std.proofs.Common.{[], map, length, sym, ap, ◌∙◌, subst}
 use Rattle.std.specs.Prelude.{is_none}
 use Rattle.std.specs.List.{flat_map, list_all}
 use Rattle.sarif_copies.specs.Copies.{copies_of, numbers_of, spread}
-use Rattle.sarif_log.proofs.Limits.{all_admitted_long, records_unadmitted}
+use Rattle.sarif_log.proofs.Limits.{records_unadmitted}
 use Rattle.sarif_model.specs.Run.{results_of}
 use Rattle.sarif_once.specs.Once.{marked, without_copies}
 use Rattle.sarif_once.proofs.Marks.{marked_each}
-use Rattle.sarif_prepare.specs.Internal.Limiting.{drafts_again, drafts_of, put_drafts, AreDraftsOf}
-use Rattle.sarif_prepare.specs.Once.{findings_only, admitted_once}
+use Rattle.sarif_prepare.specs.Internal.Limiting.{drafts_of, put_drafts, AreDraftsOf}
+use Rattle.sarif_prepare.specs.Once.{admitted_once}
 use Rattle.sarif_prepare.proofs.CopyDrafts.{as_many, found_changes}
 use Rattle.sarif_prepare.proofs.LimitedLogs.{again_are, copies_many, found_records, known_records, records_many, spots_many, within}
 use Rattle.sarif_prepare.proofs.Limits.{again_long, drafts_of_copies, drafts_put, none_of_all, none_of_copies, once_long}

@@ -1,4 +1,4 @@
-use Rattle.std.proofs.Common.{length, ap, ◌∙◌, subst, ◌≤◌}
+use Rattle.std.proofs.Common.{length, ap, ◌∙◌}
 use Rattle.sarif_log.proofs.Sides.{taken_long}
 use Rattle.sarif_prepare.proofs.pairing.pair_results.Goals as goal
 

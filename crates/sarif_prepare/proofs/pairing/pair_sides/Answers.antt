@@ -1,5 +1,4 @@
-use Rattle.std.proofs.Common.{map, length, sym, ap, ◌∙◌, subst, arith}
-use Rattle.sarif_prepare.specs.Internal.Limiting.{unadmitted}
+use Rattle.std.proofs.Common.{length, sym, ap, ◌∙◌, subst, arith}
 use Rattle.sarif_prepare.specs.Internal.Together.{ArePaired}
 use Rattle.sarif_prepare.proofs.MatchedRecords.{matched_records}
 use Rattle.sarif_prepare.proofs.pairing.pair_sides.Goals as goal

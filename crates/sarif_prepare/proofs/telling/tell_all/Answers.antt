@@ -7,7 +7,6 @@ use Rattle.serde_json.specs.contracts.value.Value as Json
 use Rattle.sarif_model.proofs.text.Text.TheSendSync as text
 use Rattle.sarif_model.proofs.fault.Fault.TheSendSync as fault
 use Rattle.sarif_runs.proofs.head.RunHead.TheSendSync as head
-use Rattle.sarif_findings.proofs.reporting.Reporting.TheSendSync as reporting
 use Rattle.sarif_read.specs.contracts.indexed_run.IndexedRun as IndexedRun
 use Rattle.sarif_runs.specs.contracts.opened.OpenedRun as OpenedRun
 use Rattle.sarif_findings.proofs.Shared.{named_sync}

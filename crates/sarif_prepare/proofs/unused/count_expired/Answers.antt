@@ -1,4 +1,4 @@
-use Rattle.std.proofs.Common.{refl, ◌∙◌}
+use Rattle.std.proofs.Common.{◌∙◌}
 use Rattle.sarif_prepare.proofs.Expired.{all_expired}
 use Rattle.sarif_prepare.proofs.unused.count_expired.Goals as goal
 

@@ -1,0 +1,4 @@
+pub mod BareArtifacts
+pub mod ChangeShared
+pub mod ListedAsked
+pub mod ResultsShared
