@@ -1,6 +1,6 @@
 -- A baseline that has the current results, and of each tool its others after them: each current result is matched with
 -- itself, and exactly the others stay unmatched.
-use Rattle.std.proofs.Common.{◌≡◌, ℕ, ◌+◌, ◌<◌, ◌≤◌, zero, suc, Bool, true, false, cond, not, ◌&&◌, ◌||◌, ◌==◌, ◌⊎◌, inl, inr, bytes_eq, List, [], ◌∷◌, ◌++◌, Option, Some, None, option_map, length, map, slice_get, slice_index_or, replicate, is_some, refl, sym, ap, ap₂, subst, ◌∙◌, arith, ⊎_elim, eq-eqb, true≢false, if◌then◌else◌}
+use Rattle.std.proofs.Common.{◌≡◌, ℕ, ◌+◌, ◌<◌, ◌≤◌, zero, suc, Bool, true, false, cond, not, ◌&&◌, ◌||◌, ◌⊎◌, inl, inr, bytes_eq, List, [], ◌∷◌, ◌++◌, Option, Some, None, option_map, length, map, slice_get, slice_index_or, replicate, is_some, refl, sym, ap, ap₂, subst, ◌∙◌, arith, ⊎_elim, eq-eqb, true≢false, if◌then◌else◌}
 use Rattle.std.specs.Prelude.{filter, nat_lt}
 use Rattle.std.specs.List.{AllByRecursion, list_any, range_with_len}
 use Rattle.std.proofs.lemmas.Bool.{cases_lt, le-ltb, lt-ltb}

@@ -1,6 +1,6 @@
 -- A baseline that has the current results in turn with its others: each current result is matched with itself, and
 -- exactly the others stay unmatched, in both versions.
-use Rattle.std.proofs.Common.{◌≡◌, ℕ, List, ◌++◌, Option, Some, None, slice_get, slice_index_or, refl, sym}
+use Rattle.std.proofs.Common.{◌≡◌, ℕ, List, ◌++◌, Some, None, slice_get, slice_index_or}
 use Rattle.std.proofs.lemmas.List.Concat.{flat_map-append}
 use Rattle.sarif_model.specs.declared.record.Record.{Record}
 use Rattle.sarif_evidence.specs.declared.version.MatchingVersion.{MatchingVersion}

@@ -5,7 +5,6 @@ use Rattle.std.specs.List.{AllByRecursion, flat_map}
 use Rattle.std.proofs.Math.Seq.{take-append_seam, drop-append_seam}
 use Rattle.sarif_log.proofs.Sides.{few_kept}
 use Rattle.serde_json.specs.Data.{Data}
-use Rattle.sarif_model.specs.declared.kinds.State.{State}
 use Rattle.sarif_model.specs.declared.record.Record.{Record}
 use Rattle.sarif_model.specs.Run.{is_absent_result, present, results_of, results_total}
 use Rattle.sarif_model.specs.Driver.{tool_name}

@@ -1,5 +1,5 @@
 -- The law of adopting.
-use Rattle.std.proofs.Common.{◌≡◌, ◌+◌, ◌<◌, ◌≤◌, ◌&&◌, ◌||◌, ◌++◌, ℕ, zero, suc, Bool, true, false, List, [], ◌∷◌, map, length, take, drop, get_or, None, Some, Ok, refl, sym, ap, ap₂, subst, ◌∙◌, arith, length-append, append-nil}
+use Rattle.std.proofs.Common.{◌≡◌, ◌+◌, ◌<◌, ◌≤◌, ◌&&◌, ◌++◌, ℕ, zero, suc, Bool, true, false, List, [], ◌∷◌, map, length, take, drop, get_or, None, Some, Ok, refl, sym, ap, ap₂, subst, ◌∙◌, arith, length-append, append-nil}
 use Rattle.std.specs.Prelude.{bytes_eq, cond, count_by, flat_map, nat_lt, slice_get, slice_index_or}
 use Rattle.std.specs.List.{AllByRecursion, AllZip, range_with_len}
 use Rattle.std.proofs.lemmas.Bool.{ltb-false, ltb-true}
@@ -24,7 +24,6 @@ use Rattle.sarif_findings.specs.Reported.{is_active, level_in, state_in}
 use Rattle.sarif_evidence.specs.Evidence.{state_in as matched_state}
 use Rattle.sarif_evidence.specs.declared.version.MatchingVersion.{MatchingVersion}
 use Rattle.sarif_evidence.specs.declared.version.MatchingVersion.TheVariants.{Two, Three}
-use Rattle.sarif_evidence.proofs.StateLemmas.{equal_is_unchanged}
 use Rattle.sarif_runs.specs.Judging.{run_values}
 use Rattle.sarif_runs.specs.Record.{record_of}
 use Rattle.sarif_results.specs.Annotated.{own_suppressions}
@@ -37,14 +36,13 @@ use Rattle.sarif_known.specs.Order.{known_runs}
 use Rattle.sarif_known.proofs.RunBack.{known_again}
 use Rattle.sarif_known_laws.proofs.BarePartners.{all_kept, bare_current}
 use Rattle.sarif_runs.specs.declared.run_options.RecordOptions.{RecordOptions}
-use Rattle.sarif_runs.specs.Placed.{AreReadWith}
 use Rattle.sarif_known.specs.Laws.{IsOfTool}
 use Rattle.sarif_suppress.specs.Limited.{AreUnadmitted, with_admitted}
 use Rattle.sarif_known.specs.declared.standing.Standing.{Standing}
 use Rattle.sarif_known.specs.Selected.{is_left_out, keep_unless, known_of, unmatched_of}
 use Rattle.sarif_read.specs.Reading.{log_of}
 use Rattle.sarif_inputs.specs.Faults.{faults_of}
-use Rattle.sarif_inputs.specs.Inputs.{Inputs, baseline_runs, baseline_sources, input_runs, log_sources, numbered, placed, placed_from, readable, reading_checks, record_options}
+use Rattle.sarif_inputs.specs.Inputs.{Inputs, baseline_runs, input_runs, log_sources, numbered, placed, placed_from, readable, reading_checks, record_options}
 use Rattle.sarif_inputs.proofs.ReadFacts.{baseline_sides, log_sides, read_alike}
 use Rattle.sarif_inputs.proofs.SourceRuns.{data_placed}
 use Rattle.sarif_log.specs.LogBy.{listing_of, partner_in, taken_of}

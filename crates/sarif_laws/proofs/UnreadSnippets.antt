@@ -1,19 +1,18 @@
 -- Without entries that compare snippets, regions and snippets change nothing of a merge in version 2.
-use Rattle.std.proofs.Common.{◌≡◌, ◌+◌, ◌++◌, ◌||◌, ◌&&◌, ℕ, zero, suc, Bool, true, false, not, cond, List, [], ◌∷◌, map, filter, length, take, drop, Option, Some, None, slice_get, slice_index_or, refl, sym, ap, ap₂, ◌∙◌, true≢false, if◌then◌else◌}
-use Rattle.std.specs.Prelude.{count_by, is_some, nat_le, option_and_then}
-use Rattle.std.specs.List.{AllByRecursion, AllZip, list_all, list_any, range_with_len}
+use Rattle.std.proofs.Common.{◌≡◌, ◌+◌, ◌++◌, ◌||◌, ◌&&◌, ℕ, zero, suc, Bool, false, not, cond, List, [], ◌∷◌, map, filter, length, take, drop, Option, Some, None, slice_get, slice_index_or, refl, sym, ap, ap₂, ◌∙◌, true≢false, if◌then◌else◌}
+use Rattle.std.specs.Prelude.{count_by, is_some, nat_le}
+use Rattle.std.specs.List.{AllByRecursion, AllZip, list_any, range_with_len}
 use Rattle.std.specs.Option.{option_map_or}
 use Rattle.std.proofs.lemmas.Bool.{or_parts}
 use Rattle.std.proofs.lemmas.List.{drop-map, length-map, map-append, take-map}
 use Rattle.std.proofs.lemmas.List.Sums.{sum_by-cons}
 use Rattle.serde_json.specs.Data.{Data, null, boolean, number, string, array, object}
-use Rattle.sarif_model.specs.declared.kinds.State.{State}
 use Rattle.sarif_model.specs.declared.kinds.State.TheVariants.{Absent}
 use Rattle.sarif_model.specs.declared.record.Record.{Record}
 use Rattle.sarif_model.specs.Run.{present, results_of}
 use Rattle.sarif_evidence.specs.Evidence.{state_in}
 use Rattle.sarif_evidence.specs.declared.version.MatchingVersion.TheVariants.{Two}
-use Rattle.sarif_entries.specs.Condition.{holds, of_kind, text_in, text_of}
+use Rattle.sarif_entries.specs.Condition.{holds, text_in}
 use Rattle.sarif_entries.specs.declared.condition.Condition.{Condition}
 use Rattle.sarif_entries.specs.declared.condition.Condition.TheVariants.{Tool, RuleId, Uri, UriPrefix, Guid, Fingerprints, PartialFingerprints, Message, MessageId, MessageArguments, Snippet}
 use Rattle.sarif_entries.specs.declared.condition.ConditionKind.TheVariants as kinds
@@ -28,9 +27,9 @@ use Rattle.sarif_known_laws.proofs.BareRecords.{bare}
 use Rattle.sarif_log.specs.LogBy.{listing_of, partner_in, states_from, states_of, taken_of}
 use Rattle.sarif_log.specs.MergedRuns.{absent_runs, if_any, keep_if, unmatched, written}
 use Rattle.sarif_match.specs.Partners.{is_taken, partners_of}
-use Rattle.sarif_suppress.specs.Limited.{has_room_after, limited, limited_after, met_by, admitted_after, with_admitted}
-use Rattle.sarif_suppress.specs.Suppressing.{is_unused, matching, unused_of}
-use Rattle.sarif_suppress.specs.Written.{suppressions_of, with_objects}
+use Rattle.sarif_suppress.specs.Limited.{has_room_after, limited, limited_after, met_by, with_admitted}
+use Rattle.sarif_suppress.specs.Suppressing.{is_unused, unused_of}
+use Rattle.sarif_suppress.specs.Written.{with_objects}
 use Rattle.sarif_laws.proofs.LaterResults.{IsAlike}
 
 -- ---- conditions

@@ -13,7 +13,7 @@ use Rattle.sarif_read.specs.declared.read_fault.ReadFault.{ReadFault}
 use Rattle.sarif_read.specs.Reading.{log_of}
 use Rattle.sarif_runs.specs.Judging.{faults_of_runs}
 use Rattle.sarif_inputs.specs.Faults.{faults_of}
-use Rattle.sarif_inputs.specs.Inputs.{Inputs, Sourced, numbered, placed, readable, reading_checks, runs_in}
+use Rattle.sarif_inputs.specs.Inputs.{Inputs, Sourced, numbered, placed, readable, reading_checks}
 use Rattle.sarif_inputs.specs.SourceFaults.{limit_faults, reading_faults, source_faults}
 use Rattle.sarif_inputs_laws.proofs.Parts.{all_faults, apart_faults}
 use Rattle.sarif_inputs_laws.proofs.Renumbered.{both_empty, faults-append, none_both, placed-append, placed_alike, runs_faultless}

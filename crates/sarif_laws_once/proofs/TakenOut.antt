@@ -1,5 +1,5 @@
 -- The merge of logs and baselines without copies has the findings of the merge with them.
-use Rattle.std.proofs.Common.{◌≡◌, ◌+◌, ℕ, suc, Bool, true, false, List, [], ◌∷◌, ◌++◌, length, take, drop, Option, Some, None, option_map, refl, sym, ap, ap₂, ◌∙◌}
+use Rattle.std.proofs.Common.{◌≡◌, ◌+◌, ℕ, Bool, true, false, List, [], ◌∷◌, length, take, drop, Option, Some, None, option_map, refl, sym, ap, ap₂, ◌∙◌}
 use Rattle.std.specs.Prelude.{◌||◌, cond, fold, is_some, not}
 use Rattle.serde_json.specs.Data.{Data}
 use Rattle.serde_json.specs.View.{items_of}
@@ -21,14 +21,14 @@ use Rattle.sarif_runs.specs.Unmarked.{runs_without}
 use Rattle.sarif_suppress.specs.Suppressing.{unused_of}
 use Rattle.sarif_once.specs.Once.{copy_marks, without_copies}
 use Rattle.sarif_log.specs.LogBy.{current_runs, limited_records, runs_by, runs_without_results}
-use Rattle.sarif_prepare.specs.By.{counted_if, merge_by, runs_counted_if}
+use Rattle.sarif_prepare.specs.By.{counted_if, runs_counted_if}
 use Rattle.sarif_prepare.specs.Chosen.{chosen_merge, hits_alone, marks_in, misfit_in, with_choice}
 use Rattle.sarif_prepare.specs.Kept.{merge_of}
 use Rattle.sarif_prepare.proofs.Expired.{all_expired}
 use Rattle.sarif_inputs.specs.Faults.{faults_of}
 use Rattle.sarif_inputs.specs.Inputs.{Inputs, baseline_runs, input_runs, looks_at_regions}
 use Rattle.sarif_merge.specs.Life.{merge_counted}
-use Rattle.sarif_merge.specs.MergedLog.{file_given, limited_of, runs_counted, unused_counted, without_of}
+use Rattle.sarif_merge.specs.MergedLog.{file_given, limited_of, runs_counted, unused_counted}
 use Rattle.sarif_laws_once.specs.TakenOut.{AreWithoutCopies, HasSameFindings, counting_each, if_each_counts}
 use Rattle.sarif_laws_once.specs.WithoutPlaces.{log_without_copies}
 use Rattle.sarif_laws_once.proofs.ReadWithout.{none_there, runs_before, runs_now}
