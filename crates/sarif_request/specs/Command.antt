@@ -61,6 +61,10 @@ argument name kind = record { name = name; kind = kind; default = None }
 abbrev pub with_default : Text → Argument → Argument
 with_default value argument = record argument { default = Some value }
 
+-- a kind of option that takes a date: a number from the first date to the last
+abbrev pub IsDate : OptionKind → Type 0
+IsDate kind = kind ≡ Number (pos first_day) (pos last_day)
+
 -- all but the reports
 abbrev pub arguments : List Argument
 arguments =

@@ -1,7 +1,9 @@
 pub mod Command
 pub mod Dates
+pub mod Help
 pub mod Listing
 pub mod Names
+pub mod Sentences
 pub mod Showing
 pub mod Terminal
 pub mod Together

@@ -99,3 +99,9 @@ clash_of names =
     if have_one_name names.logs then Some RepeatedLog else (
     if have_one_name names.baselines then Some RepeatedBaseline else (
     output_clash names))
+
+-- two inputs have one name
+abbrev pub is_repeat : Clash → Bool
+is_repeat RepeatedLog = true
+is_repeat RepeatedBaseline = true
+is_repeat _ = false
