@@ -1,2 +1,3 @@
 pub mod EscapedMore
+pub mod ExplanationMore
 pub mod ShortenedMore

@@ -1,4 +1,8 @@
 //! The explanation of an argument that fits no hit.
+ghost use Rattle.std.specs.Prelude.{IfOk, chars, codes, string_bytes};
+ghost use Rattle.sarif_explain.specs.Internal.Lines.{IsShortExplanation, line_of};
+ghost use Rattle.sarif_explain.specs.Internal.Lines.{most_of_a_value, shortened};
+
 use crate::advice::advice_on;
 use crate::explaining::push_sentence;
 use crate::hint::Hint;
@@ -9,11 +13,15 @@ use std::alloc::{AllocError, Global};
 
 /// Returns the explanation of an error in this value of an option: the lines `found`, `wanted` and `advice` of
 /// [`explanation`](crate::explanation). Returns `AllocError` if memory runs out.
+#[tactic(auto, using(crate::proofs::ExplanationMore::ends_short))]
 pub fn argument_explanation(
     alloc: Global,
     fault: &MergeFault,
     value: &str,
-) -> Result<String, AllocError> {
+) -> Result<String, AllocError>
+    ensures { IfOk result (λ s. IsShortExplanation
+        (line_of (codes "found") (shortened most_of_a_value (chars value.now))) (string_bytes s)) }
+{
     let mut lines = String::new(alloc);
     let found = shorten(alloc, value)?;
     push_line(alloc, &mut lines, "found", found.as_str())?;

@@ -1,4 +1,7 @@
 //! The explanation of an error.
+ghost use Rattle.std.specs.Prelude.{IfOk, OnOk, codes, string_bytes};
+ghost use Rattle.sarif_explain.specs.Internal.Lines.{AddsLine, IsExplanation, file_line};
+
 use crate::advice::advice_on;
 use crate::form::form_of;
 use crate::hint::{Hint, hint_of};
@@ -41,11 +44,15 @@ fn push_found(
 }
 
 /// Adds the sentence that says what is expected.
+#[tactic(auto, using(crate::proofs::ExplanationMore::adds_line))]
 pub(crate) fn push_sentence(
     alloc: Global,
     lines: &mut String,
     wanted: Wanted,
-) -> Result<(), AllocError> {
+) -> Result<(), AllocError>
+    ensures { OnOk result
+        (AddsLine (codes "wanted") (string_bytes lines.old) (string_bytes lines.new)) }
+{
     let sentence = format!(in alloc; "{wanted}")?;
     push_line(alloc, lines, "wanted", sentence.as_str())
 }
@@ -158,18 +165,22 @@ fn push_system(
 /// object in which a member is missing; `line` and `column` of a JSON error; `found`, the beginning of the value's
 /// compact JSON, `nothing`, the form of a file that is not JSON, or a folder; `wanted`; `system`; `advice`. Strings are
 /// shown as in reports. Returns `AllocError` if memory runs out.
+#[tactic(auto, using(crate::proofs::ExplanationMore::ends_explanation))]
 pub fn explanation(
     alloc: Global,
     fault: &MergeFault,
     source: &FaultSource<'_>,
-) -> Result<String, AllocError> {
+) -> Result<String, AllocError>
+    ensures { IfOk result (λ s. IsExplanation (file_line source.now.file.now) (string_bytes s)) }
+{
     let mut lines = String::new(alloc);
     if !source.file.is_empty() {
         push_line(alloc, &mut lines, "file", source.file)?;
     }
-    let hint = push_spot(alloc, &mut lines, fault, source)?;
-    push_system(alloc, &mut lines, fault.cause, source.system)?;
-    let advice = advice_on(fault, hint);
-    push_line(alloc, &mut lines, "advice", advice)?;
+    let mut about = String::new(alloc);
+    let hint = push_spot(alloc, &mut about, fault, source)?;
+    push_system(alloc, &mut about, fault.cause, source.system)?;
+    lines.push_str(about.as_str())?;
+    push_line(alloc, &mut lines, "advice", advice_on(fault, hint))?;
     Ok(lines)
 }
