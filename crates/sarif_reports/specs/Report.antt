@@ -42,6 +42,11 @@ report_name report.Azure = codes "azure"
 report_name report.Unused = codes "unused"
 report_name (report.Terminal screen) = codes "terminal"
 
+-- whether it has an option
+abbrev pub has_option : Report → Bool
+has_option (report.Terminal screen) = false
+has_option _ = true
+
 -- what error messages call each
 abbrev pub output_name : Report → List ℕ
 output_name report.Suppressions = codes "new suppressions"

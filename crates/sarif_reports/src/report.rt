@@ -1,7 +1,8 @@
 //! The outputs besides the merged log as rows: a variant for each, with its name, its help and its content.
-ghost use Rattle.std.specs.Prelude.{◌≡◌, ◌≤◌, IfOk, string_bytes};
+ghost use Rattle.std.specs.Prelude.{◌≡◌, ◌≤◌, ◌↔◌, IfOk, [], false, string_bytes};
 ghost use Rattle.sarif_shown.specs.Facts.{facts_of};
-ghost use Rattle.sarif_reports.specs.Report.{is_for_merges, needs_findings, report_name, report_of};
+ghost use Rattle.sarif_reports.specs.Report.{has_option, is_for_merges, needs_findings};
+ghost use Rattle.sarif_reports.specs.Report.{report_name, report_of};
 
 use crate::later_outputs::{known_text, suppressions_text, unused_text};
 use sarif_shown::{ReportInput, Screen};
@@ -71,7 +72,9 @@ impl Report {
     }
 
     /// Returns what `--help` says about the option of this output, or nothing if it has none.
-    pub fn help(self) -> &'static str {
+    pub fn help(self) -> &'static str
+        ensures { (result.now ≡ []) ↔ (has_option self ≡ false) }
+    {
         match self {
             Report::Suppressions =>
                 "Write a new suppression file, made with --accept, --prune or both. It\n\
