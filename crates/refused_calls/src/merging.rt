@@ -43,7 +43,7 @@ fn options_by(alloc: Global, seed: RandomState) -> Options {
     }
 }
 
-/// The merged log by `merge_bytes`, or its error.
+/// Returns the merged log by `merge_bytes`, or its error.
 pub fn merged_bytes<R: Threads + Wait + Sync>(
     rt: &R,
     alloc: Global,
@@ -62,6 +62,7 @@ fn sources_of(alloc: Global, given: &MergeInput) -> Result<SourceBytes, AllocErr
         logs: Vec::new(alloc),
         baselines: Vec::new(alloc),
         suppressions: None,
+        diff: None,
     };
     sources.logs.push(given.log.as_bytes().to_vec(alloc)?)?;
     if !given.baseline.is_empty() {
@@ -75,7 +76,8 @@ fn sources_of(alloc: Global, given: &MergeInput) -> Result<SourceBytes, AllocErr
     Ok(sources)
 }
 
-/// What `merge_to` wrote of a log with a baseline, or with a suppression file if there is no baseline; or its error.
+/// Returns what `merge_to` wrote of a log with a baseline, or with a suppression file if there is no baseline; or its
+/// error.
 pub fn merged_to<R: Threads + Wait + Sync>(
     rt: &R,
     alloc: Global,
@@ -89,6 +91,7 @@ pub fn merged_to<R: Threads + Wait + Sync>(
             logs: vec![in alloc; Counted::new(log)]?,
             baselines: Vec::new(alloc),
             suppressions: Some(Counted::new(given.suppressions.as_bytes())),
+            diff: None,
         };
         write_merged(rt, alloc, seed, &mut readers)
     } else {
@@ -96,6 +99,7 @@ pub fn merged_to<R: Threads + Wait + Sync>(
             logs: vec![in alloc; Counted::new(log)]?,
             baselines: vec![in alloc; Counted::new(given.baseline.as_bytes())]?,
             suppressions: None,
+            diff: None,
         };
         write_merged(rt, alloc, seed, &mut readers)
     }

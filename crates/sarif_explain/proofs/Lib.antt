@@ -1,2 +1,3 @@
+pub mod DiffMore
 pub mod EscapedMore
 pub mod ShortenedMore

@@ -5,6 +5,9 @@ use sarif_model::{At, Cause, Fault, MergeFault, Source};
 /// What to do about an input past a limit.
 const SPLIT: &str = "split the analysis, or drop what you don't need";
 
+/// What to do about a diff past a limit.
+const NARROW: &str = "compare fewer commits or fewer files: git diff A B -- PATH";
+
 /// What to do about a place or a rule that fits no chosen hit.
 const COPY: &str = "copy it from a line of --text; if you pass --at and --rule, one of each must \
     fit the same hit";
@@ -73,7 +76,10 @@ fn advice_on_fault(fault: Fault, at: At, hint: Hint) -> &'static str {
         Fault::AbsentInput => {
             "pass the file with --baseline, or merge the analyser's own log instead"
         }
-        Fault::TooMany => SPLIT,
+        Fault::TooMany => match at {
+            At::Line(_) => NARROW,
+            _ => SPLIT,
+        },
         Fault::NotList => {
             "check that you passed the right file; a suppression file has an array suppressions"
         }
@@ -84,6 +90,17 @@ fn advice_on_fault(fault: Fault, at: At, hint: Hint) -> &'static str {
             "run the analysis again, or read the analyser's own output to see what failed"
         }
         Fault::NoHit => COPY,
+        Fault::NoChange => {
+            "check that git diff succeeded, with set -o pipefail and the history fetched \
+             (fetch-depth: 0); a change without files needs no gate"
+        }
+        Fault::Combined => "compare two commits: git diff A B",
+        Fault::BadHunk => {
+            "pass the diff as git diff writes it, whole and without colours; --word-diff writes \
+             no lines"
+        }
+        Fault::BadHeader => "pass the diff as git diff writes it, with the names of its files",
+        Fault::Submodule => "pass --submodule=diff to git diff, or --ignore-submodules",
     }
 }
 
@@ -109,7 +126,10 @@ pub(crate) fn advice_on(fault: &MergeFault, hint: Hint) -> &'static str {
     }
     match fault.cause {
         Cause::Of(wrong) => advice_on_fault(wrong, fault.at, hint),
-        Cause::TooLong => SPLIT,
+        Cause::TooLong => match fault.at {
+            At::Whole(Source::Diff) => NARROW,
+            _ => SPLIT,
+        },
         Cause::ReadFailed => "check that the file exists, is not a folder and is readable",
         Cause::WriteFailed => {
             "check that the folder exists, that you may write there, and that the disk has room"

@@ -1,4 +1,7 @@
 //! The explanation of an error.
+ghost use Rattle.std.specs.Prelude.{◌≡◌, ◌++◌, ℕ, List, OnOk, codes, string_bytes};
+ghost use Rattle.sarif_explain.specs.Internal.Lines.{line_of};
+
 use crate::advice::advice_on;
 use crate::form::form_of;
 use crate::hint::{Hint, hint_of};
@@ -45,7 +48,10 @@ pub(crate) fn push_sentence(
     alloc: Global,
     lines: &mut String,
     wanted: Wanted,
-) -> Result<(), AllocError> {
+) -> Result<(), AllocError>
+    ensures { OnOk result ((sentence : List ℕ)
+        × (string_bytes lines.new ≡ string_bytes lines.old ++ line_of (codes "wanted") sentence)) }
+{
     let sentence = format!(in alloc; "{wanted}")?;
     push_line(alloc, lines, "wanted", sentence.as_str())
 }

@@ -5,6 +5,7 @@
 mod advice;
 mod argument;
 mod checks;
+mod diff;
 mod entry;
 mod explaining;
 mod fitting;
@@ -22,5 +23,6 @@ mod wanted;
 mod whole;
 
 pub use argument::argument_explanation;
+pub use diff::diff_explanation;
 pub use explaining::{FaultSource, explanation};
 pub use output::{is_past_limit, output_explanation};

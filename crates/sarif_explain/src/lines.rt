@@ -1,5 +1,5 @@
 //! The lines of an explanation.
-ghost use Rattle.std.specs.Prelude.{◌≡◌, ◌++◌, IfOk, OnOk, chars, string_bytes};
+ghost use Rattle.std.specs.Prelude.{◌≡◌, ◌++◌, IfOk, OnOk, chars, decimal, string_bytes};
 ghost use Rattle.sarif_explain.specs.Internal.Lines as said;
 
 use sarif_findings::show_text;
@@ -33,12 +33,15 @@ pub(crate) fn push_number(
     lines: &mut String,
     name: &str,
     number: usize,
-) -> Result<(), AllocError> {
+) -> Result<(), AllocError>
+    ensures { OnOk result
+        (string_bytes lines.new ≡ string_bytes lines.old ++ said.line_of name.now (decimal number)) }
+{
     let text = format!(in alloc; "{number}")?;
     push_line(alloc, lines, name, text.as_str())
 }
 
-/// The first 80 characters of a string, then `...` if there are more.
+/// Returns the first 80 characters of a string, then `...` if there are more.
 pub(crate) fn shorten(alloc: Global, text: &str) -> Result<String, AllocError>
     ensures { IfOk result
         (λ s. string_bytes s ≡ said.shortened said.most_of_a_value (chars text.now)) }

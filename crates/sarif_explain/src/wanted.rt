@@ -53,6 +53,12 @@ pub(crate) enum Wanted {
     Today,
     HitPlace,
     HitRule,
+    Section,
+    TwoParents,
+    HunkLine,
+    FileName,
+    SubmoduleFiles,
+    FewSections,
     FewRuns,
     FewResults,
     FewEntries,
@@ -113,6 +119,16 @@ impl Wanted {
                 "the rule of a hit as --text prints it in brackets, or the empty string for a hit \
                  without a rule"
             }
+            Wanted::Section => "a diff as git diff writes it, with a section for each changed file",
+            Wanted::TwoParents =>
+                "a diff of two commits: one of several parents has no lines of its own",
+            Wanted::HunkLine => {
+                "the header of a hunk, or as many of its old and new lines as the header says, one of \
+                 them removed or added"
+            }
+            Wanted::FileName => "the name of one file, quoted as git quotes it",
+            Wanted::SubmoduleFiles => "the changed files of the submodule",
+            Wanted::FewSections => "at most 1000000 sections and 1000000 hunks",
             Wanted::Readable => "a file that exists and can be read to its end",
             Wanted::Writable => "a file that can be written, and enough room on the disk",
             Wanted::Memory => "enough memory for the inputs and the outputs",

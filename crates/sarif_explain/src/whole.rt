@@ -31,7 +31,13 @@ fn wanted_at(at: At, fault: Fault) -> Wanted {
         Fault::BadSuppression => Wanted::Suppression,
         Fault::BadMember => Wanted::Member,
         Fault::AbsentInput => Wanted::Present,
+        Fault::NoChange => Wanted::Section,
+        Fault::Combined => Wanted::TwoParents,
+        Fault::BadHunk => Wanted::HunkLine,
+        Fault::BadHeader => Wanted::FileName,
+        Fault::Submodule => Wanted::SubmoduleFiles,
         Fault::TooMany => match at {
+            At::Line(_) => Wanted::FewSections,
             At::Whole(Source::Suppress) => Wanted::FewEntries,
             At::Run(_, _) => Wanted::FewResults,
             _ => Wanted::FewRuns,
@@ -123,7 +129,7 @@ fn is_file(at: At) -> bool {
     matches!(at, At::Whole(Source::Suppress) | At::Entry(_))
 }
 
-/// The error in the source with this value.
+/// Returns the error in the source with this value.
 pub(crate) fn mismatch_of<'a>(
     alloc: Global,
     value: &'a Value,
@@ -132,7 +138,7 @@ pub(crate) fn mismatch_of<'a>(
 ) -> Result<Mismatch<'a>, AllocError> {
     let root = JsonPlace::root(alloc, value, !is_file(at));
     match at {
-        At::Nowhere | At::Whole(_) | At::Place(_) | At::Rule(_) => {
+        At::Nowhere | At::Whole(_) | At::Line(_) | At::Place(_) | At::Rule(_) => {
             let found = mismatch_of_source(alloc, &root, at, fault)?;
             Ok(or_all(found, root, wanted_at(at, fault)))
         }

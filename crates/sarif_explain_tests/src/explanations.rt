@@ -1,5 +1,6 @@
 //! The smallest source of each cause, with the complete expected explanation.
 mod arguments;
+mod diffs;
 mod files;
 mod forms;
 mod logs;

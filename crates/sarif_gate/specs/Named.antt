@@ -48,7 +48,7 @@ is_error (Output output) = false
 is_error (Error error) = true
 
 -- each source and each output is what the request names, in the place where it names it; `-` is a standard stream as
--- a log and as an output, and a file as a baseline and as the suppression file
+-- a log, as the diff and as an output, and a file as a baseline and as the suppression file
 pub record AreNamed {R I F D O E : Type 0} (request : Request)
     (readers : Readers (Kept (Input R I F D)))
     (writers : Writers (Kept (Target R O F D)) (Console O E) (Kept (Target R O F D)))
@@ -57,6 +57,7 @@ pub record AreNamed {R I F D O E : Type 0} (request : Request)
   pub baselines : map source_channel readers.baselines.items ≡ map Named request.baselines.items
   pub suppressions : option_map source_channel readers.suppressions
       ≡ option_map Named request.suppress
+  pub diff : option_map source_channel readers.diff ≡ option_map channel_named request.diff
   pub out : output_channel writers.out ≡ channel_named request.out
   pub reports : map report_channel writers.reports.items ≡ map report_named (outputs_in request)
   pub say : is_error (inner_of writers.say) ≡ leaves_no_output request

@@ -2,7 +2,8 @@
 use crate::outputs::Outputs;
 use crate::sources::ProgramSource;
 use sarif_explain::{
-    FaultSource, argument_explanation, explanation, is_past_limit, output_explanation,
+    FaultSource, argument_explanation, diff_explanation, explanation, is_past_limit,
+    output_explanation,
 };
 use sarif_findings::show_text;
 use sarif_model::{At, Cause, MergeFault, Source, Text};
@@ -69,6 +70,7 @@ impl EndedRun<'_, '_> {
             Source::Log(number) => self.request.logs.get(number as usize),
             Source::Baseline(number) => self.request.baselines.get(number as usize),
             Source::Suppress => self.request.suppress.as_ref(),
+            Source::Diff => self.request.diff.as_ref(),
             Source::Output => Some(&self.request.out),
             Source::Known => self.name_for(Report::Known),
         }
@@ -123,6 +125,7 @@ impl EndedRun<'_, '_> {
                 of_kept(alloc, fault, name, readers.baselines.get(number as usize))
             }
             Source::Suppress => of_kept(alloc, fault, name, readers.suppressions.as_ref()),
+            Source::Diff => of_diff(alloc, fault, name, readers.diff.as_ref()),
             Source::Output => of_written(alloc, fault, name, Some(&self.writers.out)),
             Source::Known => of_output(alloc, fault, name),
         }
@@ -152,6 +155,7 @@ fn source_of(fault: &MergeFault) -> Option<Source> {
         At::Nowhere | At::Place(_) | At::Rule(_) => None,
         At::Whole(source) | At::Run(source, _) | At::Single(source, _, _) => Some(source),
         At::Entry(_) => Some(Source::Suppress),
+        At::Line(_) => Some(Source::Diff),
     }
 }
 
@@ -185,6 +189,29 @@ fn of_kept<'a, D>(
         }
         None => of_source(alloc, fault, file, &[], None),
     }
+}
+
+/// Returns the explanation of an error in the diff with this name, from the kept bytes of the diff.
+fn of_diff<'a, D>(
+    alloc: Global,
+    fault: &MergeFault,
+    name: Option<&'a Text>,
+    source: Option<&'a Counted<Kept<D>>>,
+) -> Result<String, AllocError> {
+    let Cause::Of(_) = fault.cause else {
+        return of_kept(alloc, fault, name, source);
+    };
+    let bytes = match source {
+        Some(source) => source.inner().bytes().ok_or(AllocError)?,
+        None => &[],
+    };
+    let source = FaultSource {
+        file: name_or_none(name),
+        bytes,
+        system: None,
+        is_folder: false,
+    };
+    diff_explanation(alloc, fault, &source)
 }
 
 /// Returns the explanation of an output with this name that was not written, from the error that was kept.

@@ -30,6 +30,8 @@ pub struct Job<'a> {
         ≡ map Named «request».now.baselines.items },
     ghost suppressions: { option_map source_channel readers.suppressions
         ≡ option_map Named «request».now.suppress },
+    ghost diff: { option_map source_channel readers.diff
+        ≡ option_map channel_named «request».now.diff },
     ghost out: { output_channel writers.out ≡ channel_named «request».now.out },
     ghost reports: { map report_channel writers.reports.items
         ≡ map report_named (outputs_in «request».now) },
@@ -37,6 +39,7 @@ pub struct Job<'a> {
     ghost fresh_logs: { failed_calls_in readers.logs.items ≡ 0 },
     ghost fresh_baselines: { failed_calls_in readers.baselines.items ≡ 0 },
     ghost fresh_suppressions: { failed_calls_if readers.suppressions ≡ 0 },
+    ghost fresh_diff: { failed_calls_if readers.diff ≡ 0 },
     ghost fresh_out: { failed_calls writers.out ≡ 0 },
     ghost fresh_reports: { report_failures writers.reports.items ≡ 0 },
     ghost fresh_say: { failed_calls writers.say ≡ 0 },

@@ -21,16 +21,19 @@ pub fn sources_of<'a>(
     rt: &'a HostRuntime,
     request: &'a Request,
 ) -> Result<Readers<ProgramSource<'a>>, AllocError>
-    // Each name is in the list that the request has it in. Only a log can be standard input.
+    // Each name is in the list that the request has it in. Only a log or the diff can be standard input.
     ensures logs { IfOk result (λ sources. map source_channel sources.logs.items
         ≡ map channel_named «request».now.logs.items) }
     ensures baselines { IfOk result (λ sources. map source_channel sources.baselines.items
         ≡ map Named «request».now.baselines.items) }
     ensures suppressions { IfOk result (λ sources. option_map source_channel sources.suppressions
         ≡ option_map Named «request».now.suppress) }
+    ensures diff { IfOk result (λ sources. option_map source_channel sources.diff
+        ≡ option_map channel_named «request».now.diff) }
     ensures fresh { IfOk result (λ sources. (failed_calls_in sources.logs.items ≡ 0)
         × (failed_calls_in sources.baselines.items ≡ 0)
-        × (failed_calls_if sources.suppressions ≡ 0)) }
+        × (failed_calls_if sources.suppressions ≡ 0)
+        × (failed_calls_if sources.diff ≡ 0)) }
 {
     let logs = logs_of(rt, &request.logs, request.explain)?;
     let baselines = baselines_of(rt, &request.baselines, request.explain)?;
@@ -38,10 +41,15 @@ pub fn sources_of<'a>(
         Some(name) => Some(file_of(rt, name.as_str(), request.explain)),
         None => None,
     };
+    let diff = match &request.diff {
+        Some(name) => Some(stream_of(rt, name.as_str(), request.explain)),
+        None => None,
+    };
     Ok(Readers {
         logs,
         baselines,
         suppressions,
+        diff,
     })
 }
 
@@ -57,8 +65,7 @@ fn logs_of<'a>(
 {
     let mut logs = Vec::new(rt.alloc());
     for name in names {
-        let log = Input::log(rt, rt.stdin(), name.as_str());
-        logs.push(fresh_source(rt, log, is_kept))?;
+        logs.push(stream_of(rt, name.as_str(), is_kept))?;
     }
     Ok(logs)
 }
@@ -77,6 +84,14 @@ fn baselines_of<'a>(
         baselines.push(file_of(rt, name.as_str(), is_kept))?;
     }
     Ok(baselines)
+}
+
+/// Returns the file of a name, or standard input for `-`.
+fn stream_of<'a>(rt: &'a HostRuntime, name: &'a str, is_kept: bool) -> Counted<ProgramSource<'a>>
+    ensures name { source_channel result ≡ channel_named name.now }
+    ensures fresh { failed_calls result ≡ 0 }
+{
+    fresh_source(rt, Input::log(rt, rt.stdin(), name), is_kept)
 }
 
 /// The file of a name.

@@ -1,4 +1,5 @@
 pub mod AllowedAlike
+pub mod ChangeAnswers
 pub mod FileAnswers
 pub mod IndexedTexts
 pub mod OpenedParts

@@ -11,14 +11,15 @@ use Rattle.sarif_evidence.specs.declared.version.MatchingVersion.TheVariants.{Tw
 use Rattle.sarif_read.specs.declared.read_fault.ReadFault.{ReadFault}
 use Rattle.sarif_read.specs.Reading.{log_of}
 use Rattle.sarif_model.specs.declared.merge_fault.Source.{Source}
-use Rattle.sarif_model.specs.declared.merge_fault.Source.TheVariants.{Log, Baseline, Suppress, Output, Known}
+use Rattle.sarif_model.specs.declared.merge_fault.Source.TheVariants.{Log, Baseline, Suppress, Diff, Output, Known}
 
--- the bytes of the logs, of the baselines and of the suppression file, if there is one; today's date, if it is known;
--- what is required of runs; and whether records have regions and snippets because entries compare snippets
+-- the bytes of the logs, of the baselines, and of the suppression file and the diff, if there are any; today's date, if
+-- it is known; what is required of runs; and whether records have regions and snippets because entries compare snippets
 pub record Inputs : Type 0 where
   pub logs : List (List ℕ)
   pub baselines : List (List ℕ)
   pub suppressions : Option (List ℕ)
+  pub diff : Option (List ℕ)
   pub today : Option ℕ
   pub checks : Checks
   pub snippets : Bool
@@ -55,6 +56,7 @@ abbrev pub must_succeed : Checks → Source → Bool
 must_succeed checks (Log k) = checks.require_success
 must_succeed checks (Baseline k) = false
 must_succeed checks Suppress = false
+must_succeed checks Diff = false
 must_succeed checks Output = false
 must_succeed checks Known = false
 

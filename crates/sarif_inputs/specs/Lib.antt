@@ -1,3 +1,4 @@
+pub mod ChangeIn
 pub mod Faults
 pub mod Inputs
 pub mod Internal

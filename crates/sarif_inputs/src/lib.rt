@@ -2,6 +2,7 @@
 //! suppression file; or the first error of these.
 #![tactic(auto)]
 
+mod change_file;
 mod indexes;
 mod laws;
 mod opening;
@@ -11,6 +12,7 @@ mod snippets;
 mod sources;
 mod suppression_file;
 
+pub use change_file::look_at_change;
 pub use indexes::index_sources;
 pub use laws::allowing_external_files_changes_nothing_without_them;
 pub use snippets::read_snippets;

@@ -29,10 +29,11 @@ use Rattle.sarif_inputs.specs.Inputs.{Inputs, baseline_runs, input_runs, reading
 use Rattle.sarif_log.specs.LogBy.{listing_of, states_of, taken_of}
 use Rattle.sarif_log.specs.MergedRuns.{written}
 use Rattle.sarif_merge.specs.Life.{merge_in}
-use Rattle.sarif_merge.specs.MergedLog.{current_of, file_given, limited_of, runs_written, written_inputs}
+use Rattle.sarif_merge.specs.MergedLog.{change_given, current_of, file_given, limited_of, runs_written, written_inputs}
 use Rattle.sarif_merge.specs.OwnResult.{IsResult, baseline_of, number_among_all, partner_at, run_at, admitted_at, written_by, written_run}
 use Rattle.sarif_merge.proofs.OwnResult.{own_result, results_same, runs_same}
-use Rattle.sarif_upkeep.specs.Renewed.{added_in, how_of, renewal_faults}
+use Rattle.sarif_prepare.specs.Kept.{merge_of}
+use Rattle.sarif_upkeep.specs.Renewed.{added_in, how_of, renewal_faults, rules_after}
 use Rattle.sarif_accept.specs.Adding.{may_hit}
 use Rattle.sarif_accept.specs.Choosing.{Marks}
 use Rattle.sarif_accept.specs.Until.{IsDated, IsUntil}
@@ -192,9 +193,20 @@ module _ (inputs : Inputs) (policy : Policy) (marks : Marks) (renewal : Renewal)
             (found_at file rs place r at) (found_at (renumbered later) rs place r at);
       })
 
-module _ (inputs : Inputs) (policy : Policy) (renewal : Renewal) (text : List ℕ) (none : faults_of inputs ≡ [])
-    (small : renewal_faults (merge_in inputs policy) renewal ≡ [])
-    (accepts : renewal.accept ≡ true) (until : IsUntil inputs.today renewal.until) (is : IsNewFileOf inputs policy renewal text) where
+-- without a diff the gate checks all results
+pub whole_merge : (inputs : Inputs) (policy : Policy) → change_given inputs ≡ None → merge_in inputs policy ≡ merge_choosing inputs policy None
+whole_merge inputs policy whole =
+    ap (λ change. merge_of inputs.checks (file_given inputs) inputs.suppressions change policy (input_runs inputs) (baseline_runs inputs)) whole
+
+module _ (inputs : Inputs) (policy : Policy) (renewal : Renewal) (text : List ℕ) (whole : change_given inputs ≡ None) (none : faults_of inputs ≡ [])
+    (small_given : renewal_faults (merge_in inputs policy) renewal ≡ [])
+    (accepts : renewal.accept ≡ true) (until : IsUntil inputs.today renewal.until) (is_given : IsNewFileOf inputs policy renewal text) where
+  small : renewal_faults (merge_choosing inputs policy None) renewal ≡ []
+  small = ap (λ m. renewal_faults m renewal) (sym (whole_merge inputs policy whole)) ∙ small_given
+
+  is : IsNewFileChoosing inputs policy None renewal text
+  is = is_given ∙ ap (λ m. Some (rules_after m renewal)) (whole_merge inputs policy whole)
+
   dated : IsDated inputs.today renewal.until
   dated = dated_until inputs.today renewal.until until
 

@@ -47,7 +47,7 @@ one_hit policy result =
     ∙ hits_one policy (state_in result) (level_in result) suppressed
     ∙ told policy (state_in result) (level_in result) suppressed
 
-in_items : (policy : Policy) (ds : Items) → hits_of (count_in ds) policy ≡ count_by (is_hit_in policy) (elements ds)
+pub in_items : (policy : Policy) (ds : Items) → hits_of (count_in ds) policy ≡ count_by (is_hit_in policy) (elements ds)
 in_items policy no_items = hits_zero policy
 in_items policy (item d ds) =
     hits_add (λ s l x. count_if (carries s l x d) 1) (count_in ds) policy

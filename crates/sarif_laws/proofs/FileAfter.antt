@@ -8,7 +8,6 @@ use Rattle.sarif_evidence.specs.declared.version.MatchingVersion.{MatchingVersio
 use Rattle.sarif_evidence.specs.declared.version.MatchingVersion.TheVariants.{Two, Three}
 use Rattle.sarif_model.specs.declared.kinds.State.{State}
 use Rattle.sarif_model.specs.declared.merge_fault.MergeFault.{MergeFault}
-use Rattle.sarif_model.specs.declared.merge_fault.Source.TheVariants.{Log, Baseline}
 use Rattle.sarif_model.specs.declared.record.Record.{Record}
 use Rattle.sarif_model.specs.Limits.{most_entries}
 use Rattle.sarif_options.specs.declared.policy.Policy.{Policy}
@@ -17,13 +16,11 @@ use Rattle.sarif_entries.specs.declared.fault.FileFault.{FileFault}
 use Rattle.sarif_entries.specs.File.{File, file_of}
 use Rattle.sarif_entries.specs.Numbering.{renumbered, with_number}
 use Rattle.sarif_suppress.specs.Limited.{limited}
-use Rattle.sarif_results.proofs.JudgedCounts.{no_faults_here, no_faults_left}
 use Rattle.sarif_log.specs.LogBy.{states_of}
-use Rattle.sarif_inputs.specs.Faults.{faults_of, file_faults, number_faults}
+use Rattle.sarif_inputs.specs.Faults.{faults_of, file_faults}
 use Rattle.sarif_entries.specs.Given.{file_or_none}
-use Rattle.sarif_inputs.specs.Inputs.{Inputs, all_runs, all_sources, input_runs}
-use Rattle.sarif_inputs.specs.SourceFaults.{source_faults}
-use Rattle.sarif_runs.specs.Judging.{faults_of_runs}
+use Rattle.sarif_inputs.specs.Inputs.{Inputs, input_runs}
+use Rattle.sarif_inputs_laws.proofs.Parts.{all_faults, apart_faults}
 use Rattle.sarif_merge.specs.Life.{merge_in}
 use Rattle.sarif_merge.specs.MergedLog.{current_of, file_given, file_in, limited_of}
 use Rattle.sarif_merge.specs.OwnResult.{baseline_of}
@@ -48,14 +45,7 @@ file_is (Err fault) none = let never : ⊥ = cc in absurd never
 
 -- the file is read without an error
 pub input_file : (inputs : Inputs) → faults_of inputs ≡ [] → file_or_none inputs.suppressions inputs.today ≡ Ok (file_given inputs)
-input_file inputs none =
-    let runs = faults_of_runs (all_runs inputs) in
-    let files = file_faults (file_or_none inputs.suppressions inputs.today) in
-    let sources = source_faults 0 0 (all_sources inputs) in
-    let after_logs = no_faults_left (number_faults Log inputs.logs) (number_faults Baseline inputs.baselines ++ (sources ++ (files ++ runs))) none in
-    let after_baselines = no_faults_left (number_faults Baseline inputs.baselines) (sources ++ (files ++ runs)) after_logs in
-    let after_sources = no_faults_left sources (files ++ runs) after_baselines in
-    file_is (file_or_none inputs.suppressions inputs.today) (no_faults_here files runs after_sources)
+input_file inputs none = file_is (file_or_none inputs.suppressions inputs.today) (apart_faults inputs none).file
 
 -- the file was read for the date of the inputs
 pub same_today : (inputs : Inputs) → faults_of inputs ≡ [] → (file_given inputs).today ≡ inputs.today
@@ -111,13 +101,6 @@ few_by n fault rest none = by_test (nat_lt most_entries n) refl none
     by_test true is none = let never : ⊥ = cc in absurd never
     by_test false is none = ltb-false most_entries n is
 
-another_file : (a b c d e more : List MergeFault) → a ++ (b ++ (c ++ (d ++ e))) ≡ [] → more ≡ [] → a ++ (b ++ (c ++ (more ++ e))) ≡ []
-another_file [] [] [] [] e more none new = ap (λ l. l ++ e) new ∙ none
-another_file [] [] [] (x ∷ d) e more none new = let never : ⊥ = cc in absurd never
-another_file [] [] (x ∷ c) d e more none new = let never : ⊥ = cc in absurd never
-another_file [] (x ∷ b) c d e more none new = let never : ⊥ = cc in absurd never
-another_file (x ∷ a) b c d e more none new = let never : ⊥ = cc in absurd never
-
 -- the suppression file of the next merge, as it is meant; its entries have the numbers that they had
 abbrev pub later_file : Inputs → Policy → Marks → Renewal → File
 later_file inputs policy marks renewal =
@@ -164,6 +147,13 @@ module _ (inputs : Inputs) (policy : Policy) (marks : Marks) (renewal : Renewal)
 
   pub faultless_later : faults_of (with_file inputs text) ≡ []
   faultless_later =
-      another_file (number_faults Log inputs.logs) (number_faults Baseline inputs.baselines) (source_faults 0 0 (all_sources inputs))
-      (file_faults (file_or_none inputs.suppressions inputs.today))
-      (faults_of_runs (all_runs inputs)) (file_faults (file_of text inputs.today)) none (ap file_faults later_read)
+      let fine = apart_faults inputs none in
+      all_faults (with_file inputs text) (record {
+        logs = fine.logs;
+        baselines = fine.baselines;
+        sources = fine.sources;
+        file = ap file_faults later_read;
+        change = fine.change;
+        log_runs = fine.log_runs;
+        older_runs = fine.older_runs;
+      })

@@ -6,10 +6,13 @@ pub mod Adopted
 pub mod Arranged
 pub mod ByTool
 pub mod ByVersion
+pub mod Changed
 pub mod Counted
 pub mod FileAfter
 pub mod FromEnd
 pub mod Grouping
+pub mod HitsInside
+pub mod HitsTold
 pub mod IgnoredLog
 pub mod Joined
 pub mod Keyed
@@ -21,6 +24,7 @@ pub mod LineFeeds
 pub mod Lists
 pub mod Matched
 pub mod NewFile
+pub mod NoDiff
 pub mod NothingNew
 pub mod OfTool
 pub mod Places

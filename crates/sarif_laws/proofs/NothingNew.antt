@@ -66,7 +66,8 @@ use Rattle.sarif_laws.proofs.Accepted.{input_run, no_result}
 use Rattle.sarif_laws.proofs.Adopted.{own_unchanged, same_long}
 use Rattle.sarif_laws.proofs.ByTool.{IsOfOne, known_of_tool, records_among}
 use Rattle.sarif_laws.proofs.ByVersion.{matched_in, turn, turn_among, unmatched_in}
-use Rattle.sarif_laws.proofs.Counted.{hits_counted, none_fails}
+use Rattle.sarif_laws.proofs.Counted.{hits_counted}
+use Rattle.sarif_laws.proofs.HitsInside.{none_inside}
 use Rattle.sarif_laws.proofs.KnownRuns.{all_again, before_sound, IsChosenAgain, IsChosenSound, now_sound}
 use Rattle.sarif_laws.proofs.Limited.{read_limited, read_unadmitted}
 use Rattle.sarif_laws.proofs.Lists.{all_append, same_counts}
@@ -422,5 +423,5 @@ module _ (inputs : Inputs) (policy : Policy) (knowing : Knowing) (known : List �
     absent = absent_there;
     count = zip_long (results_unmatched later) (flat_map results_of (absent_written later)) absent_there
         ∙ same_long (results_unmatched later) (results_kept inputs policy) others_there;
-    verdict = λ any current gone. none_fails any (hits_of (count_of (runs_written later)) any) (no_hits any current gone);
+    verdict = λ change any current gone. none_inside change any (runs_written later) (no_hits any current gone);
   }

@@ -13,7 +13,7 @@ use Rattle.sarif_model.specs.Run.{results_of}
 use Rattle.sarif_options.specs.declared.policy.Policy.{Policy}
 use Rattle.sarif_options.specs.declared.upkeep.Renewal.{Renewal}
 use Rattle.sarif_counts.specs.CountOf.{count_of}
-use Rattle.sarif_counts.specs.Hits.{verdict_of}
+use Rattle.sarif_scope.specs.Counted.{verdict_by}
 use Rattle.sarif_runs.specs.Judging.{run_values}
 use Rattle.sarif_results.specs.Drafts.{Listing}
 use Rattle.sarif_entries.specs.declared.condition.ConditionKind.TheVariants as kinds
@@ -39,6 +39,7 @@ use Rattle.sarif_accept.specs.Adding.{How, added_for, may_hit}
 use Rattle.sarif_accept.specs.Keeping.{is_kept}
 use Rattle.sarif_accept.specs.NewFile.{entries_after, file_object, new_file}
 use Rattle.sarif_accept_laws.proofs.After.{same_list, unused_stays}
+use Rattle.sarif_laws.specs.Choosing.{merge_choosing}
 use Rattle.sarif_laws.specs.NextMerge.{IsNewFileOf, absent_written, with_file}
 use Rattle.sarif_laws.specs.Pruning.{ChangesNoResult}
 use Rattle.sarif_laws.proofs.FileAfter.{faultless_later, input_file, keeps_matches, later_file, later_is, later_read, same_today}
@@ -97,13 +98,13 @@ abbrev undated : Renewal → Renewal
 undated renewal = record renewal { until = None }
 
 module _ (inputs : Inputs) (policy : Policy) (renewal : Renewal) (none : renewal.accept ≡ false) where
-  none_added : values_added (merge_in inputs policy) renewal ≡ values_added (merge_in inputs policy) (undated renewal)
+  none_added : values_added (merge_in inputs policy) renewal ≡ values_added (merge_choosing inputs policy None) (undated renewal)
   none_added = rw none refl
 
-  same_file : rules_after (merge_in inputs policy) renewal ≡ rules_after (merge_in inputs policy) (undated renewal)
+  same_file : rules_after (merge_in inputs policy) renewal ≡ rules_after (merge_choosing inputs policy None) (undated renewal)
   same_file = ap (new_file (file_object inputs.suppressions) (kept_in (merge_in inputs policy) renewal)) none_added
 
-  same_small : renewal_faults (merge_in inputs policy) renewal ≡ renewal_faults (merge_in inputs policy) (undated renewal)
+  same_small : renewal_faults (merge_in inputs policy) renewal ≡ renewal_faults (merge_choosing inputs policy None) (undated renewal)
   same_small =
       ap₂ text_faults
       (ap (λ values. length (entries_after (file_object inputs.suppressions) (kept_in (merge_in inputs policy) renewal) values)) none_added)
@@ -239,7 +240,7 @@ module _ (inputs : Inputs) (policy : Policy) (renewal : Renewal) (text : List �
     faultless = later_none;
     runs = same_log;
     counts = ap count_of same_log;
-    verdict = λ any. ap (λ runs. verdict_of (count_of runs) any) same_log;
+    verdict = λ change any. ap (verdict_by change any) same_log;
     entries = later_entries;
     matches = keeps_matches inputs policy None (undated renewal) text sound (sym (same_small inputs policy renewal none) ∙ small) tt
         (is ∙ ap Some (same_file inputs policy renewal none));

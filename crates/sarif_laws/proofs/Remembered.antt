@@ -5,7 +5,6 @@ use Rattle.std.specs.List.{AllByRecursion}
 use Rattle.std.specs.Str.{IsUtf8}
 use Rattle.std.proofs.lemmas.Bool.{ltb-false}
 use Rattle.std.proofs.lemmas.List.{length-map, map-append}
-use Rattle.std.proofs.lemmas.List.Concat.{flat_map-append}
 use Rattle.json.specs.Tree as tree
 use Rattle.json.proofs.Printed.Decimals.{IsNumber-decimal}
 use Rattle.json.proofs.Printed.Trees.{ArePrintable-json_tokens}
@@ -21,15 +20,15 @@ use Rattle.sarif_evidence.specs.declared.version.MatchingVersion.{MatchingVersio
 use Rattle.sarif_evidence.specs.declared.version.MatchingVersion.TheVariants.{Two, Three}
 use Rattle.sarif_options.specs.declared.policy.Policy.{Policy}
 use Rattle.sarif_options.specs.declared.upkeep.Knowing.{Knowing}
-use Rattle.sarif_runs.specs.Judging.{faults_of_runs, run_faults, run_values}
+use Rattle.sarif_runs.specs.Judging.{faults_of_runs, run_values}
 use Rattle.sarif_read.specs.Reading.{log_of}
 use Rattle.sarif_results.proofs.JudgedCounts.{no_faults_here, no_faults_left}
-use Rattle.sarif_inputs.specs.Faults.{faults_of, file_faults, number_faults}
-use Rattle.sarif_entries.specs.Given.{file_or_none}
-use Rattle.sarif_inputs.specs.Inputs.{Inputs, Sourced, all_runs, all_sources, baseline_runs, baseline_sources, input_runs, log_sources, looks_at_regions, placed, placed_from, reading_checks, record_options, runs_in}
+use Rattle.sarif_inputs.specs.Faults.{faults_of}
+use Rattle.sarif_inputs.specs.Inputs.{Inputs, Sourced, all_sources, baseline_runs, baseline_sources, input_runs, log_sources, looks_at_regions, placed, placed_from, reading_checks, record_options, runs_in}
 use Rattle.sarif_inputs.specs.SourceFaults.{limit_faults, reading_faults, source_faults}
 use Rattle.sarif_inputs.proofs.ReadFacts.{baseline_sides, log_sides, placed-append}
 use Rattle.sarif_inputs.proofs.SourceRuns.{data_placed}
+use Rattle.sarif_inputs_laws.proofs.Parts.{apart_faults}
 use Rattle.sarif_known.specs.Chosen.{Chosen, known_as, knows_regions, results_among, run_as}
 use Rattle.sarif_known.specs.KnownLog.{known_log, known_text, pretty_text}
 use Rattle.sarif_known.specs.KnownResult.{known_result, object_from}
@@ -98,19 +97,11 @@ all_within runs results (s ∷ rest) few few_results none =
 
 -- ---- the runs without errors
 
-pub all_faultless : (inputs : Inputs) → faults_of inputs ≡ [] → (source_faults 0 0 (all_sources inputs) ≡ []) × (faults_of_runs (all_runs inputs) ≡ [])
-all_faultless inputs none =
-    let runs = faults_of_runs (all_runs inputs) in
-    let files = file_faults (file_or_none inputs.suppressions inputs.today) in
-    let sources = source_faults 0 0 (all_sources inputs) in
-    let after_logs = no_faults_left (number_faults Log inputs.logs) (number_faults Baseline inputs.baselines ++ (sources ++ (files ++ runs))) none in
-    let after_baselines = no_faults_left (number_faults Baseline inputs.baselines) (sources ++ (files ++ runs)) after_logs in
-    (no_faults_here sources (files ++ runs) after_baselines, no_faults_left files runs (no_faults_left sources (files ++ runs) after_baselines))
+pub sources_faultless : (inputs : Inputs) → faults_of inputs ≡ [] → source_faults 0 0 (all_sources inputs) ≡ []
+sources_faultless inputs none = (apart_faults inputs none).sources
 
 pub faultless_before : (inputs : Inputs) → faults_of inputs ≡ [] → faults_of_runs (baseline_runs inputs) ≡ []
-faultless_before inputs none =
-    no_faults_left (faults_of_runs (input_runs inputs)) (faults_of_runs (baseline_runs inputs))
-    (sym (flat_map-append run_faults (input_runs inputs) (baseline_runs inputs)) ∙ (all_faultless inputs none).1)
+faultless_before inputs none = (apart_faults inputs none).older_runs
 
 -- ---- its runs as they are read
 
@@ -224,7 +215,7 @@ module _ (inputs : Inputs) (policy : Policy) (knowing : Knowing) (none : faults_
       let adopt = adopts knowing in
       let now = known_now m adopt in
       let before = known_before m in
-      let limits = all_within 0 0 (all_sources inputs) (omega arith) (omega arith) (all_faultless inputs none).0 in
+      let limits = all_within 0 0 (all_sources inputs) (omega arith) (omega arith) (sources_faultless inputs none) in
       let split = placed-append (log_sources inputs) (baseline_sources inputs) in
       let runs_split = ap length split ∙ length-append (input_runs inputs) (baseline_runs inputs) in
       let results_split =

@@ -29,7 +29,7 @@ use Rattle.sarif_known_laws.proofs.BareRecords.{bare, run_bare, without_regions}
 use Rattle.sarif_runs.specs.Placed.{Placed}
 use Rattle.sarif_merge.specs.MergedLog.{current_of}
 use Rattle.sarif_laws.proofs.Read.{ok_is}
-use Rattle.sarif_laws.proofs.Remembered.{all_faultless}
+use Rattle.sarif_laws.proofs.Remembered.{sources_faultless}
 
 -- ---- each source is read
 
@@ -58,7 +58,7 @@ all_front [] ys all = tt
 all_front (x ∷ xs) ys all = (all.0, all_front xs ys all.1)
 
 logs_read : (inputs : Inputs) → faults_of inputs ≡ [] → AllByRecursion IsReadable (log_sources inputs)
-logs_read inputs none = all_front (log_sources inputs) (baseline_sources inputs) (each_read 0 0 (all_sources inputs) (all_faultless inputs none).0)
+logs_read inputs none = all_front (log_sources inputs) (baseline_sources inputs) (each_read 0 0 (all_sources inputs) (sources_faultless inputs none))
 
 -- ---- as the same runs
 

@@ -1,5 +1,5 @@
 -- The log and the counts of a merge by tool are those of its parts.
-use Rattle.std.proofs.Common.{◌≡◌, ◌+◌, ℕ, Bool, true, false, not, cond, List, [], ◌++◌, length, is_some, refl, ap, ap₂, ◌∙◌, arith, if◌then◌else◌}
+use Rattle.std.proofs.Common.{◌≡◌, ◌+◌, ℕ, Bool, true, false, not, cond, List, [], ◌++◌, length, is_some, Option, Some, None, refl, ap, ap₂, ◌∙◌, arith, if◌then◌else◌}
 use Rattle.std.specs.Prelude.{◌↔◌, count_by, nat_lt}
 use Rattle.std.proofs.lemmas.Bool.{ltb-false}
 use Rattle.std.proofs.lemmas.List.Sums.{sum_by-append}
@@ -32,9 +32,12 @@ use Rattle.sarif_inputs_laws.proofs.Parts.{accepted_parts, matched_parts}
 use Rattle.sarif_merge.specs.MergedLog.{current_of, file_given, limited_of, without_of, written_inputs}
 use Rattle.sarif_merge.specs.OwnResult.{baseline_of}
 use Rattle.sarif_merge.proofs.OwnResult.{faultless_runs}
+use Rattle.sarif_scope.specs.Counted.{hits_by}
+use Rattle.sarif_scope.specs.declared.gated.GatedChange.{GatedChange}
 use Rattle.sarif_laws.specs.NextMerge.{absent_written}
 use Rattle.sarif_laws.specs.Sums.{IsSumOf, Passes, counts_in, hits_in, is_limited_by_tool}
 use Rattle.sarif_laws.proofs.Counted.{none_fails}
+use Rattle.sarif_laws.proofs.HitsInside.{hits_apart}
 use Rattle.sarif_laws.proofs.Joined.{absent_joined, marks_both, merged_joined, states_both}
 use Rattle.sarif_laws.proofs.Remembered.{faultless_before}
 use Rattle.sarif_laws.proofs.ToolLimits.{first_parts, limited_both}
@@ -49,6 +52,16 @@ joined_counts w x y z s l b =
     let back = count_of-append y z s l b in
     let one = count_of-append w y s l b in
     let other = count_of-append x z s l b in
+    omega (arith, all, front, back, one, other)
+
+joined_hits : (change : GatedChange) (policy : Policy) (w x y z : List Data)
+    → hits_by (Some change) policy ((w ++ x) ++ (y ++ z)) ≡ hits_by (Some change) policy (w ++ y) + hits_by (Some change) policy (x ++ z)
+joined_hits change policy w x y z =
+    let all = hits_apart policy change (w ++ x) (y ++ z) in
+    let front = hits_apart policy change w x in
+    let back = hits_apart policy change y z in
+    let one = hits_apart policy change w y in
+    let other = hits_apart policy change x z in
     omega (arith, all, front, back, one, other)
 
 -- a gate that allows no hit passes only without hits
@@ -122,8 +135,11 @@ module _ (inputs : Inputs) (logs more baselines others : List (List ℕ)) where
         ap₂ (λ w a. count_of (w ++ a) s l b) written_both absent_both
         ∙ joined_counts (written_inputs one) (written_inputs other) (absent_written one) (absent_written other) s l b
 
-    hits_both : (policy : Policy) → hits_in both policy ≡ hits_in one policy + hits_in other policy
-    hits_both policy =
+    hits_both : (change : Option GatedChange) (policy : Policy) → hits_in change both policy ≡ hits_in change one policy + hits_in change other policy
+    hits_both (Some change) policy =
+        ap₂ (λ w a. hits_by (Some change) policy (w ++ a)) written_both absent_both
+        ∙ joined_hits change policy (written_inputs one) (written_inputs other) (absent_written one) (absent_written other)
+    hits_both None policy =
         hits_same (counts_in both) (λ s l b. counts_in one s l b + counts_in other s l b) policy (λ s l. counts_both s l false)
         ∙ hits_add (counts_in one) (counts_in other) policy
 
@@ -132,16 +148,17 @@ module _ (inputs : Inputs) (logs more baselines others : List (List ℕ)) where
         ap (count_by (λ run. not (is_some (results_array run)))) parts.logs
         ∙ sum_by-append (λ run. cond (not (is_some (results_array run))) 1 0) (run_values (input_runs one)) (run_values (input_runs other))
 
-    verdict_both : (policy : Policy) → policy.max ≡ 0 → Passes both policy ↔ (Passes one policy × Passes other policy)
-    verdict_both policy zero =
-        let sum = hits_both policy in (
-          λ passes. let all = passes_none policy (hits_in both policy) zero passes in (
-            none_fails policy (hits_in one policy) (omega (arith, sum, all)),
-            none_fails policy (hits_in other policy) (omega (arith, sum, all)),
+    verdict_both : (change : Option GatedChange) (policy : Policy) → policy.max ≡ 0
+        → Passes change both policy ↔ (Passes change one policy × Passes change other policy)
+    verdict_both change policy zero =
+        let sum = hits_both change policy in (
+          λ passes. let all = passes_none policy (hits_in change both policy) zero passes in (
+            none_fails policy (hits_in change one policy) (omega (arith, sum, all)),
+            none_fails policy (hits_in change other policy) (omega (arith, sum, all)),
           ),
-          λ passes. let first = passes_none policy (hits_in one policy) zero passes.0 in
-              let second = passes_none policy (hits_in other policy) zero passes.1 in
-              none_fails policy (hits_in both policy) (omega (arith, sum, first, second)),
+          λ passes. let first = passes_none policy (hits_in change one policy) zero passes.0 in
+              let second = passes_none policy (hits_in change other policy) zero passes.1 in
+              none_fails policy (hits_in change both policy) (omega (arith, sum, first, second)),
         )
 
     pub sums_of_parts : IsSumOf one other both

@@ -9,6 +9,7 @@ use Rattle.sarif_evidence.specs.declared.version.MatchingVersion.{MatchingVersio
 use Rattle.sarif_evidence.specs.declared.version.MatchingVersion.TheVariants.{Two}
 use Rattle.sarif_entries.specs.File.{File}
 use Rattle.sarif_entries.specs.Given.{file_or_none}
+use Rattle.sarif_inputs.specs.ChangeIn.{change_read, faults_of_change}
 use Rattle.sarif_inputs.specs.Faults.{faults_of, file_faults, number_faults}
 use Rattle.sarif_inputs.specs.Inputs.{Inputs, all_runs, all_sources, baseline_runs, input_runs, looks_at_regions, numbered, placed, reading_checks}
 use Rattle.sarif_inputs.specs.Snippets.{compares_snippets, with_regions, with_regions_if}
@@ -122,7 +123,8 @@ module _ (inputs : Inputs) (two : inputs.checks.matching ≡ Two) (all : inputs.
   same_faults : faults_of plain ≡ faults_of inputs
   same_faults =
       ap₂ (λ sources runs. number_faults Log inputs.logs
-      ++ (number_faults Baseline inputs.baselines ++ (sources ++ (file_faults (file_or_none inputs.suppressions inputs.today) ++ runs))))
+      ++ (number_faults Baseline inputs.baselines ++ (sources ++ (file_faults (file_or_none inputs.suppressions inputs.today)
+      ++ (faults_of_change (change_read inputs.checks inputs.diff) ++ runs)))))
       same_sources same_runs
 
   pub unread : IsSameMerge plain inputs

@@ -8,8 +8,8 @@ use Rattle.sarif_model.specs.Run.{results_of}
 use Rattle.sarif_options.specs.declared.policy.Policy.{Policy}
 use Rattle.sarif_counts.specs.declared.gate_verdict.Verdict.TheVariants.{Pass}
 use Rattle.sarif_options.specs.declared.upkeep.Knowing.{Knowing}
-use Rattle.sarif_counts.specs.CountOf.{count_of}
-use Rattle.sarif_counts.specs.Hits.{verdict_of}
+use Rattle.sarif_scope.specs.Counted.{verdict_by}
+use Rattle.sarif_scope.specs.declared.gated.GatedChange.{GatedChange}
 use Rattle.sarif_findings.specs.Reported.{state_in}
 use Rattle.sarif_runs.specs.Record.{record_of}
 use Rattle.sarif_known.specs.Chosen.{known_as, knows_regions}
@@ -78,7 +78,7 @@ pub record HasNothingNew (kept : List Record) (inputs : Inputs) : Type 0 where
   pub absent : AllZip IsAbsentOf (results_unmatched inputs)
       (flat_map results_of (absent_written inputs))
   pub count : length (flat_map results_of (absent_written inputs)) ≡ length kept
-  -- so the gate passes if it counts neither unchanged nor absent results
-  pub verdict : (policy : Policy) → policy.states.unchanged ≡ false
-      → policy.states.absent ≡ false
-      → verdict_of (count_of (runs_written inputs)) policy ≡ Pass
+  -- so the gate passes if it counts neither unchanged nor absent results, with each change and without one
+  pub verdict : (change : Option GatedChange) (policy : Policy)
+      → policy.states.unchanged ≡ false → policy.states.absent ≡ false
+      → verdict_by change policy (runs_written inputs) ≡ Pass

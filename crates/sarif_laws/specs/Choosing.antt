@@ -1,5 +1,5 @@
 -- What accepting chosen hits leaves of the results in the next merge.
-use Rattle.std.specs.Prelude.{◌≡◌, ℕ, ◌++◌, true, false, List, [], Some, filter, length, slice_get}
+use Rattle.std.specs.Prelude.{◌≡◌, ℕ, ◌++◌, true, false, List, [], Some, None, filter, length, slice_get}
 use Rattle.serde_json.specs.Data.{Data}
 use Rattle.json_parts.specs.Indexed.{json_of}
 use Rattle.json_parts.specs.Mark.{without_mark}
@@ -27,11 +27,11 @@ use Rattle.sarif_merge.specs.OwnResult.{IsResult, baseline_of, number_among_all}
 use Rattle.sarif_laws.specs.Hits.{is_hit_in, stays_in, suppressions_listed}
 use Rattle.sarif_laws.specs.NextMerge.{KeepsMatches, absent_written, merged_result, merged_run_at, with_file}
 
--- the merge with these chosen hits, if not all hits are
+-- the merge with these chosen hits, if not all hits are, whose gate checks all results
 abbrev pub with_marks : Merge → Marks → Merge
-with_marks m marks = record m { chosen = marks }
+with_marks m marks = record m { hidden = None; chosen = marks }
 
--- the merge of these inputs under this policy with these chosen hits, if not all hits are
+-- the merge of these inputs under this policy with these chosen hits, if not all are, whose gate checks all results
 abbrev pub merge_choosing : Inputs → Policy → Marks → Merge
 merge_choosing inputs policy marks = with_marks (merge_in inputs policy) marks
 

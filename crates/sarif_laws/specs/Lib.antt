@@ -1,11 +1,14 @@
 pub mod Accepting
 pub mod Adopting
+pub mod Changed
 pub mod Choosing
 pub mod Hits
 pub mod Ignored
 pub mod KnownAgain
 pub mod Lines
+pub mod LookedAt
 pub mod NextMerge
+pub mod OneChange
 pub mod Pruning
 pub mod SameBaseline
 pub mod Snippets

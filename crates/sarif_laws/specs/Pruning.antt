@@ -1,8 +1,9 @@
 -- What pruning the suppression file leaves in the next merge.
-use Rattle.std.specs.Prelude.{◌≡◌, ℕ, true, false, List, [], Contains, filter}
+use Rattle.std.specs.Prelude.{◌≡◌, ℕ, true, false, List, [], Option, Contains, filter}
 use Rattle.sarif_options.specs.declared.policy.Policy.{Policy}
 use Rattle.sarif_counts.specs.CountOf.{count_of}
-use Rattle.sarif_counts.specs.Hits.{verdict_of}
+use Rattle.sarif_scope.specs.Counted.{verdict_by}
+use Rattle.sarif_scope.specs.declared.gated.GatedChange.{GatedChange}
 use Rattle.sarif_inputs.specs.Faults.{faults_of}
 use Rattle.sarif_inputs.specs.Inputs.{Inputs, input_runs}
 use Rattle.sarif_merge.specs.MergedLog.{file_given, limited_of, runs_written, unused_in}
@@ -30,9 +31,10 @@ pub record ChangesNoResult (inputs : Inputs) (text : List ℕ) : Type 0 where
   pub faultless : faults_of (with_file inputs text) ≡ []
   pub runs : runs_written (with_file inputs text) ≡ runs_written inputs
   pub counts : count_of (runs_written (with_file inputs text)) ≡ count_of (runs_written inputs)
-  pub verdict : (policy : Policy)
-      → verdict_of (count_of (runs_written (with_file inputs text))) policy
-      ≡ verdict_of (count_of (runs_written inputs)) policy
+  -- with each change, and without one
+  pub verdict : (change : Option GatedChange) (policy : Policy)
+      → verdict_by change policy (runs_written (with_file inputs text))
+      ≡ verdict_by change policy (runs_written inputs)
   pub entries : (file_given (with_file inputs text)).entries
       ≡ numbered_from 0 (filter (is_kept true (heard (run_values (input_runs inputs)))
       (file_given inputs) (limited_of inputs)) (file_given inputs).entries)

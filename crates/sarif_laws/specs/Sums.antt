@@ -1,12 +1,14 @@
 -- A merge whose log and counts are those of two others together.
-use Rattle.std.specs.Prelude.{◌≡◌, ◌↔◌, ℕ, ◌+◌, ◌++◌, ◌||◌, Bool, is_none, is_some}
+use Rattle.std.specs.Prelude.{◌≡◌, ◌↔◌, ℕ, ◌+◌, ◌++◌, ◌||◌, Bool, Option, is_none, is_some}
 use Rattle.std.specs.List.{list_all}
 use Rattle.sarif_model.specs.declared.kinds.Level.{Level}
 use Rattle.sarif_model.specs.declared.kinds.State.{State}
 use Rattle.sarif_options.specs.declared.policy.Policy.{Policy}
 use Rattle.sarif_counts.specs.declared.gate_verdict.Verdict.TheVariants.{Pass}
 use Rattle.sarif_counts.specs.CountOf.{count_of}
-use Rattle.sarif_counts.specs.Hits.{Count, hits_of, verdict_of}
+use Rattle.sarif_counts.specs.Hits.{Count}
+use Rattle.sarif_scope.specs.Counted.{hits_by, verdict_by}
+use Rattle.sarif_scope.specs.declared.gated.GatedChange.{GatedChange}
 use Rattle.sarif_entries.specs.declared.condition.ConditionKind.TheVariants as kinds
 use Rattle.sarif_entries.specs.declared.entry.Entry.{Entry}
 use Rattle.sarif_entries.specs.Condition.{text_in}
@@ -19,13 +21,13 @@ use Rattle.sarif_laws.specs.NextMerge.{absent_written}
 abbrev pub counts_in : Inputs → Count
 counts_in inputs = count_of (runs_written inputs)
 
--- the hits that it counts
-abbrev pub hits_in : Inputs → Policy → ℕ
-hits_in inputs policy = hits_of (counts_in inputs) policy
+-- the hits of the merge, with a change or without one
+abbrev pub hits_in : Option GatedChange → Inputs → Policy → ℕ
+hits_in change inputs policy = hits_by change policy (runs_written inputs)
 
--- the merge passes
-abbrev pub Passes : Inputs → Policy → Type 0
-Passes inputs policy = verdict_of (counts_in inputs) policy ≡ Pass
+-- the merge passes, with a change or without one
+abbrev pub Passes : Option GatedChange → Inputs → Policy → Type 0
+Passes change inputs policy = verdict_by change policy (runs_written inputs) ≡ Pass
 
 -- the entry names a tool, unless it has no `max`
 abbrev pub names_its_tool : Entry → Bool
@@ -46,8 +48,9 @@ pub record IsSumOf (first second both : Inputs) : Type 0 where
       → counts_in both state level suppressed
       ≡ counts_in first state level suppressed + counts_in second state level suppressed
   pub without : without_of both ≡ without_of first + without_of second
-  -- and the hits are the sum of the hits
-  pub hits : (policy : Policy) → hits_in both policy ≡ hits_in first policy + hits_in second policy
+  -- and the hits are the sum of the hits, with each change and without one
+  pub hits : (change : Option GatedChange) (policy : Policy)
+      → hits_in change both policy ≡ hits_in change first policy + hits_in change second policy
   -- so if no hit is allowed, the gate passes exactly if it passes in both
-  pub verdict : (policy : Policy) → policy.max ≡ 0
-      → Passes both policy ↔ (Passes first policy × Passes second policy)
+  pub verdict : (change : Option GatedChange) (policy : Policy) → policy.max ≡ 0
+      → Passes change both policy ↔ (Passes change first policy × Passes change second policy)

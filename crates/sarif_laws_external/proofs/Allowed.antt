@@ -16,7 +16,7 @@ use Rattle.sarif_inputs.proofs.AllowedAlike.{all_alike, baseline_alike, current_
 use Rattle.sarif_prepare.specs.By.{logged_by}
 use Rattle.sarif_prepare.specs.Kept.{merge_of}
 use Rattle.sarif_merge.specs.Life.{merge_in}
-use Rattle.sarif_merge.specs.MergedLog.{file_given, merged_log, output_text}
+use Rattle.sarif_merge.specs.MergedLog.{change_given, file_given, merged_log, output_text}
 use Rattle.sarif_laws_external.specs.Fileless.{AreFileless, IsFileless}
 
 read_alike : (bytes : List ℕ) → IsFileless bytes → IsReadAlike bytes
@@ -43,7 +43,8 @@ baseline inputs fileless = baseline_alike inputs (all_read_alike inputs.baseline
 
 pub log_alike : (inputs : Inputs) (policy : Policy) → AreFileless inputs → merged_log (allowing true inputs) policy ≡ merged_log (allowing false inputs) policy
 log_alike inputs policy fileless =
-    λ i. logged_by inputs.checks (file_given inputs) (current inputs fileless i) (baseline inputs fileless i) policy
+    λ i. logged_by inputs.checks (file_given inputs) (current inputs fileless i) (baseline inputs fileless i)
+    (change_given inputs) policy
 
 pub text_alike : (inputs : Inputs) (policy : Policy) → AreFileless inputs
     → output_text (allowing true inputs) policy ≡ output_text (allowing false inputs) policy
@@ -51,4 +52,4 @@ text_alike inputs policy fileless = ap compact_text (log_alike inputs policy fil
 
 pub later_alike : (inputs : Inputs) (policy : Policy) → AreFileless inputs → merge_in (allowing true inputs) policy ≡ merge_in (allowing false inputs) policy
 later_alike inputs policy fileless =
-    λ i. merge_of inputs.checks (file_given inputs) inputs.suppressions policy (current inputs fileless i) (baseline inputs fileless i)
+    λ i. merge_of inputs.checks (file_given inputs) inputs.suppressions (change_given inputs) policy (current inputs fileless i) (baseline inputs fileless i)

@@ -12,7 +12,8 @@ use Rattle.sarif_evidence.specs.declared.version.MatchingVersion.TheVariants.{Tw
 use Rattle.sarif_known.specs.Chosen.{knows_regions}
 use Rattle.sarif_choice.specs.declared.choice.Choosing.{Choosing}
 use Rattle.sarif_counts.specs.CountOf.{count_of}
-use Rattle.sarif_counts.specs.Hits.{hits_of, verdict_of}
+use Rattle.sarif_scope.specs.Counted.{hits_by, verdict_by}
+use Rattle.sarif_scope.specs.declared.gated.GatedChange.{GatedChange}
 use Rattle.sarif_read.specs.Unmarked.{unmarked}
 use Rattle.sarif_read.proofs.Only.{array_only}
 use Rattle.sarif_runs.specs.Judging.{run_values}
@@ -28,7 +29,7 @@ use Rattle.sarif_prepare.proofs.Expired.{all_expired}
 use Rattle.sarif_inputs.specs.Faults.{faults_of}
 use Rattle.sarif_inputs.specs.Inputs.{Inputs, baseline_runs, input_runs, looks_at_regions}
 use Rattle.sarif_merge.specs.Life.{merge_counted}
-use Rattle.sarif_merge.specs.MergedLog.{file_given, limited_of, runs_counted, unused_counted}
+use Rattle.sarif_merge.specs.MergedLog.{change_given, file_given, limited_of, runs_counted, unused_counted}
 use Rattle.sarif_laws_once.specs.TakenOut.{AreWithoutCopies, HasSameFindings, counting_each, if_each_counts}
 use Rattle.sarif_laws_once.specs.WithoutPlaces.{log_without_copies}
 use Rattle.sarif_laws_once.proofs.ReadWithout.{none_there, runs_before, runs_now}
@@ -58,16 +59,17 @@ knows_each : (v : MatchingVersion) → knows_regions v false ≡ looks_at_region
 knows_each Two = refl
 knows_each Three = refl
 
-chosen_each : (checks : Checks) (file : File) (bytes : Option (List ℕ)) (policy : Policy) (choice : Option Choosing) (current baseline : List Placed)
-    → chosen_merge (record checks { once = false }) file bytes policy choice current baseline
-    ≡ record (chosen_merge checks file bytes policy choice current baseline) { once = false; regions = looks_at_regions checks.matching }
-chosen_each checks file bytes policy None current baseline =
-    (λ i. record (merge_of checks file bytes policy current baseline) { regions = knows_each checks.matching i })
-chosen_each checks file bytes policy (Some choosing) current baseline =
+chosen_each : (checks : Checks) (file : File) (bytes : Option (List ℕ)) (change : Option GatedChange) (policy : Policy) (choice : Option Choosing)
+    (current baseline : List Placed)
+    → chosen_merge (record checks { once = false }) file bytes change policy choice current baseline
+    ≡ record (chosen_merge checks file bytes change policy choice current baseline) { once = false; regions = looks_at_regions checks.matching }
+chosen_each checks file bytes change policy None current baseline =
+    (λ i. record (merge_of checks file bytes change policy current baseline) { regions = knows_each checks.matching i })
+chosen_each checks file bytes change policy (Some choosing) current baseline =
     let hits = hits_alone policy choosing.roots in
-    (λ i. with_choice (record (merge_of checks file bytes policy current baseline) { regions = knows_each checks.matching i })
-    (Some (marks_in hits choosing.choice (current_runs checks.matching file current baseline)))
-    (misfit_in hits choosing.choice (runs_by checks.matching file current baseline)))
+    (λ i. with_choice (record (merge_of checks file bytes change policy current baseline) { regions = knows_each checks.matching i })
+    (Some (marks_in change hits choosing.choice (current_runs checks.matching file current baseline)))
+    (misfit_in change hits choosing.choice (runs_by checks.matching file current baseline)))
 
 module _ (inputs : Inputs) (logs baselines : List (List ℕ)) (none : faults_of inputs ≡ []) (once : inputs.checks.once ≡ true)
     (regions : (inputs.snippets || looks_at_regions inputs.checks.matching) ≡ true) (read : AreWithoutCopies inputs logs baselines) where
@@ -94,10 +96,10 @@ module _ (inputs : Inputs) (logs baselines : List (List ℕ)) (none : faults_of 
   pub later_same : (policy : Policy) (choice : Option Choosing)
       → merge_counted (counting_each inputs logs baselines) policy choice ≡ if_each_counts inputs (merge_counted inputs policy choice)
   later_same policy choice =
-      ap₂ (chosen_merge other.checks (file_given inputs) inputs.suppressions policy choice) same_now same_before
-      ∙ chosen_each inputs.checks (file_given inputs) inputs.suppressions policy choice (without_copies now) (without_copies before)
+      ap₂ (chosen_merge other.checks (file_given inputs) inputs.suppressions (change_given inputs) policy choice) same_now same_before
+      ∙ chosen_each inputs.checks (file_given inputs) inputs.suppressions (change_given inputs) policy choice (without_copies now) (without_copies before)
       ∙ sym (ap (λ b. if_each_counts inputs
-      (chosen_merge inputs.checks (file_given inputs) inputs.suppressions policy choice (counted_if b now) (counted_if b before))) once)
+      (chosen_merge inputs.checks (file_given inputs) inputs.suppressions (change_given inputs) policy choice (counted_if b now) (counted_if b before))) once)
 
   unused_same : unused_counted other ≡ unused_counted inputs
   unused_same =
@@ -110,8 +112,8 @@ module _ (inputs : Inputs) (logs baselines : List (List ℕ)) (none : faults_of 
     log = counted_same ∙ sym log;
     counted = counted_same;
     counts = ap count_of counted_same;
-    hits = λ policy. ap (λ runs. hits_of (count_of runs) policy) counted_same;
-    verdict = λ policy. ap (λ runs. verdict_of (count_of runs) policy) counted_same;
+    hits = λ change policy. ap (hits_by change policy) counted_same;
+    verdict = λ change policy. ap (verdict_by change policy) counted_same;
     without = ap (λ ps. runs_without_results (run_values ps)) same_now ∙ still_none (copy_marks now) now;
     unused = unused_same;
     expired = sym (all_expired (file_given inputs) (limited_of other)) ∙ all_expired (file_given inputs) (limited_of inputs);

@@ -1,7 +1,7 @@
 -- The merge of logs and baselines without copies has the findings of the merge with them, in version 2.
 use Rattle.std.proofs.Common.{◌≡◌, ℕ, true, false, List, [], map, sym, ap, ap₂, ◌∙◌}
 use Rattle.sarif_counts.specs.CountOf.{count_of}
-use Rattle.sarif_counts.specs.Hits.{hits_of, verdict_of}
+use Rattle.sarif_scope.specs.Counted.{hits_by, verdict_by}
 use Rattle.sarif_evidence.specs.declared.version.MatchingVersion.TheVariants.{Two}
 use Rattle.sarif_runs.specs.Judging.{run_values}
 use Rattle.sarif_runs.specs.Placed.{Placed}
@@ -59,8 +59,8 @@ module _ (inputs : Inputs) (logs baselines : List (List ℕ)) (none : faults_of 
     log = counted_same ∙ sym log;
     counted = counted_same;
     counts = ap count_of counted_same;
-    hits = λ policy. ap (λ runs. hits_of (count_of runs) policy) counted_same;
-    verdict = λ policy. ap (λ runs. verdict_of (count_of runs) policy) counted_same;
+    hits = λ change policy. ap (hits_by change policy) counted_same;
+    verdict = λ change policy. ap (verdict_by change policy) counted_same;
     without =
         ap (λ ps. runs_without_results (run_values ps)) same_now ∙ ap runs_without_results (values_bare (without_copies now))
         ∙ still_none (copy_marks now) now;

@@ -1,22 +1,19 @@
 -- Counts and copies together are the results of the merged log.
-use Rattle.std.proofs.Common.{◌≡◌, ◌+◌, ◌++◌, Bool, true, false, List, [], length, option_map, unwrap_or, sym, ap, ap₂, ◌∙◌, arith}
+use Rattle.std.proofs.Common.{◌≡◌, ◌+◌, Bool, true, false, List, [], length, option_map, unwrap_or, sym, ap, ap₂, ◌∙◌, arith}
 use Rattle.std.specs.List.{AllByRecursion}
 use Rattle.std.proofs.lemmas.List.{length-append}
-use Rattle.std.proofs.lemmas.List.Concat.{flat_map-append}
 use Rattle.sarif_model.specs.declared.record.Record.{Record}
-use Rattle.sarif_model.specs.declared.merge_fault.Source.TheVariants.{Log, Baseline}
 use Rattle.sarif_model.specs.Run.{results_total}
 use Rattle.sarif_entries.specs.File.{File}
-use Rattle.sarif_entries.specs.Given.{file_or_none}
 use Rattle.sarif_copies.specs.Copies.{copies_of}
 use Rattle.sarif_suppress.specs.Limited.{limited}
 use Rattle.sarif_counts.specs.CountOf.{count_of}
 use Rattle.sarif_evidence.specs.declared.version.MatchingVersion.{MatchingVersion}
 use Rattle.sarif_read.specs.Unmarked.{unmarked}
-use Rattle.sarif_runs.specs.Judging.{faults_of_runs, records_of, run_faults, run_values, skips}
+use Rattle.sarif_runs.specs.Judging.{faults_of_runs, records_of, run_values, skips}
 use Rattle.sarif_runs.specs.Placed.{Placed}
 use Rattle.sarif_results.specs.Drafts.{IsRun}
-use Rattle.sarif_results.proofs.JudgedCounts.{no_faults_left, records_of_logs}
+use Rattle.sarif_results.proofs.JudgedCounts.{records_of_logs}
 use Rattle.sarif_once.specs.Once.{copy_marks, without_copies}
 use Rattle.sarif_once.proofs.Faults.{none_faulty}
 use Rattle.sarif_once.proofs.Marks.{findings_left, marked_each}
@@ -27,9 +24,9 @@ use Rattle.sarif_log.specs.Copies.{places_from}
 use Rattle.sarif_log.proofs.Sides.{records_present, taken_long}
 use Rattle.sarif_prepare.specs.By.{copies_if, runs_counted_if, written_if}
 use Rattle.sarif_prepare.specs.Once.{copies_written, current_once, findings_only, leftover_once, limited_once, marks_of_absent, marks_of_runs, states_once, taken_once}
-use Rattle.sarif_inputs.specs.Faults.{faults_of, file_faults, number_faults}
-use Rattle.sarif_inputs.specs.Inputs.{Inputs, all_runs, all_sources, baseline_runs, baseline_sources, input_runs, log_sources, reading_checks}
-use Rattle.sarif_inputs.specs.SourceFaults.{source_faults}
+use Rattle.sarif_inputs.specs.Faults.{faults_of}
+use Rattle.sarif_inputs.specs.Inputs.{Inputs, baseline_runs, baseline_sources, input_runs, log_sources, reading_checks}
+use Rattle.sarif_inputs_laws.proofs.Parts.{apart_faults}
 use Rattle.sarif_inputs.proofs.ReadFacts.{baseline_sides, log_sides}
 use Rattle.sarif_merge.specs.MergedLog.{file_given, runs_counted, runs_in_log}
 use Rattle.sarif_merge.proofs.OwnResult.{faultless_runs}
@@ -118,15 +115,7 @@ module _ (v : MatchingVersion) (file : File) (now before : List Placed)
 -- ---- inputs
 
 faultless_before : (inputs : Inputs) → faults_of inputs ≡ [] → faults_of_runs (baseline_runs inputs) ≡ []
-faultless_before inputs none =
-    let runs = faults_of_runs (all_runs inputs) in
-    let files = file_faults (file_or_none inputs.suppressions inputs.today) in
-    let sources = source_faults 0 0 (all_sources inputs) in
-    let after_logs = no_faults_left (number_faults Log inputs.logs) (number_faults Baseline inputs.baselines ++ (sources ++ (files ++ runs))) none in
-    let after_baselines = no_faults_left (number_faults Baseline inputs.baselines) (sources ++ (files ++ runs)) after_logs in
-    let after_sources = no_faults_left sources (files ++ runs) after_baselines in
-    no_faults_left (faults_of_runs (input_runs inputs)) (faults_of_runs (baseline_runs inputs))
-    (sym (flat_map-append run_faults (input_runs inputs) (baseline_runs inputs)) ∙ no_faults_left files runs after_sources)
+faultless_before inputs none = (apart_faults inputs none).older_runs
 
 pub results_together : (inputs : Inputs) → faults_of inputs ≡ []
     → results_total (runs_in_log inputs) ≡ results_counted (count_of (runs_counted inputs)) + copies_named inputs

@@ -1,11 +1,12 @@
 -- A merge whose copies aren't counted, and the merge of the same logs and baselines without these copies.
-use Rattle.std.specs.Prelude.{◌≡◌, ℕ, Bool, false, List, [], ◌∷◌, Ok, drop, ⊤}
+use Rattle.std.specs.Prelude.{◌≡◌, ℕ, Bool, false, List, [], ◌∷◌, Ok, Option, drop, ⊤}
 use Rattle.serde_json.specs.Data.{Data}
 use Rattle.sarif_model.specs.Run.{results_total}
 use Rattle.sarif_read.specs.Reading.{log_of}
 use Rattle.sarif_options.specs.declared.policy.Policy.{Policy}
 use Rattle.sarif_counts.specs.CountOf.{count_of}
-use Rattle.sarif_counts.specs.Hits.{hits_of, verdict_of}
+use Rattle.sarif_scope.specs.Counted.{hits_by, verdict_by}
+use Rattle.sarif_scope.specs.declared.gated.GatedChange.{GatedChange}
 use Rattle.sarif_inputs.specs.Faults.{faults_of}
 use Rattle.sarif_inputs.specs.Inputs.{Inputs, baseline_runs, input_runs, looks_at_regions}
 use Rattle.sarif_once.specs.Once.{copy_marks}
@@ -32,7 +33,8 @@ pub record AreWithoutCopies (inputs : Inputs) (logs baselines : List (List ℕ))
   pub before : AreReadWithout inputs.checks.allow_external (copy_marks (baseline_runs inputs))
       inputs.baselines baselines
 
--- the merge of these logs and baselines with the same suppression file, date and requirements, which counts each result
+-- the merge of these logs and baselines with the same suppression file, diff, date and requirements, which counts each
+-- result
 abbrev pub counting_each : Inputs → List (List ℕ) → List (List ℕ) → Inputs
 counting_each inputs logs baselines =
     record inputs {
@@ -54,12 +56,13 @@ pub record HasSameFindings (inputs other : Inputs) : Type 0 where
   pub log : runs_in_log other ≡ log_without_copies inputs
   -- its findings, and so its reports, are those of the same runs
   pub counted : runs_counted other ≡ runs_counted inputs
-  -- so each count is the same, and so are the hits and the verdict
+  -- so each count is the same, and so are the hits and the verdict, with each change and without one
   pub counts : count_of (runs_counted other) ≡ count_of (runs_counted inputs)
-  pub hits : (policy : Policy) → hits_of (count_of (runs_counted other)) policy
-      ≡ hits_of (count_of (runs_counted inputs)) policy
-  pub verdict : (policy : Policy) → verdict_of (count_of (runs_counted other)) policy
-      ≡ verdict_of (count_of (runs_counted inputs)) policy
+  pub hits : (change : Option GatedChange) (policy : Policy)
+      → hits_by change policy (runs_counted other) ≡ hits_by change policy (runs_counted inputs)
+  pub verdict : (change : Option GatedChange) (policy : Policy)
+      → verdict_by change policy (runs_counted other)
+      ≡ verdict_by change policy (runs_counted inputs)
   -- the runs without results, the unused entries, and those of them that are expired
   pub without : without_of other ≡ without_of inputs
   pub unused : unused_counted other ≡ unused_counted inputs

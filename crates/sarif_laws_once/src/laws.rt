@@ -76,7 +76,7 @@ pub fn copies_are_written_as_their_findings()
 
 /// Logs of copies change no count. Let inputs with more logs have no errors, let their copies not be counted, and let each
 /// result of the logs that are added after the others be alike to one of those. Then each count is that without them, and
-/// so are the hits, the verdict and the unused entries.
+/// so are the hits and the verdict of all results, and the unused entries.
 pub fn logs_of_copies_change_no_count()
     ensures { (inputs : Inputs) (more : List (List ℕ)) → faults_of (with_more inputs more) ≡ []
         → inputs.checks.once ≡ true → AreAllCopies inputs more

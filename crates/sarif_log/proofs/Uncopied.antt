@@ -22,6 +22,8 @@ use Rattle.sarif_log.specs.Internal.Copied.{places_by, AreFlagsIf}
 use Rattle.sarif_log.specs.Internal.Prepared.{IsPrepared, IsPreparedAs}
 use Rattle.sarif_log.specs.Internal.Written.{AreWritten, AreWrittenWith}
 use Rattle.sarif_log.specs.LogBy.{limited_records, runs_by, runs_without_results}
+use Rattle.sarif_scope.specs.Told.{facts_by}
+use Rattle.sarif_scope.specs.declared.gated.GatedChange.{GatedChange}
 
 written_all : (copies : Option CopyFlags) (current baseline : Side) (runs : List Data) → copies ≡ None → AreWritten current baseline runs
     → AreWrittenWith copies current baseline runs runs
@@ -32,35 +34,38 @@ no_places : (copies : Option CopyFlags) (current baseline : Side) → copies ≡
 no_places None current baseline is = refl
 no_places (Some flags) current baseline is = cc
 
-pub prepared_all : (v : MatchingVersion) (file : File) (now before : List Placed) (asked : Option Reporting) (prepared : Prepared)
-    → IsPrepared v file now before asked prepared
-    → IsPreparedAs (runs_by v file now before) (runs_by v file now before) None (runs_without_results (run_values now)) (unused_of file (limited_records file now)) asked
-    prepared
-prepared_all v file now before asked prepared h = record {
+pub prepared_all : (v : MatchingVersion) (file : File) (now before : List Placed) (change : Option GatedChange) (policy : Policy) (asked : Option Reporting)
+    (prepared : Prepared)
+    → IsPrepared v file now before change policy asked prepared
+    → IsPreparedAs (runs_by v file now before) (runs_by v file now before) None change policy (runs_without_results (run_values now))
+    (unused_of file (limited_records file now)) asked prepared
+prepared_all v file now before change policy asked prepared h = record {
   written = written_all prepared.copies prepared.current prepared.baseline (runs_by v file now before) h.copies h.written;
   named = no_places prepared.copies prepared.current prepared.baseline h.copies;
   without = h.without;
   unused = h.unused;
+  change = h.change;
   told = h.told;
 }
 
-merged_all : (v : MatchingVersion) (file : File) (now before : List Placed) (policy : Policy) (asked : Option Reporting) (merged : Merged)
-    → IsMergedAs (runs_by v file now before) (runs_by v file now before) None policy (runs_without_results (run_values now)) (unused_of file (limited_records file now))
-    asked merged
-    → IsMergedBy v file now before policy asked merged
-merged_all v file now before policy asked merged h =
+merged_all : (v : MatchingVersion) (file : File) (now before : List Placed) (change : Option GatedChange) (policy : Policy) (asked : Option Reporting)
+    (merged : Merged)
+    → IsMergedAs (runs_by v file now before) (runs_by v file now before) None change policy (runs_without_results (run_values now))
+    (unused_of file (limited_records file now)) asked merged
+    → IsMergedBy v file now before change policy asked merged
+merged_all v file now before change policy asked merged h =
     record { written = record { log = h.written.log; gate = h.written.gate }; told = h.told }
 
 -- a merge of what was prepared without copies apart
 pub merged_by : (prepared : Prepared) (policy : Policy) (merged : Merged)
-    → ((runs counted : List Data) (places : Option (List CopyPlace)) (bare idle : ℕ) (asked : Option Reporting)
-    → IsPreparedAs runs counted places bare idle asked prepared → IsMergedAs runs counted places policy bare idle asked merged)
-    → (v : MatchingVersion) (file : File) (now before : List Placed) (asked : Option Reporting) → IsPrepared v file now before asked prepared
-    → IsMergedBy v file now before policy asked merged
-merged_by prepared policy merged made = λ v file now before asked h.
-    merged_all v file now before policy asked merged
-    (made (runs_by v file now before) (runs_by v file now before) None (runs_without_results (run_values now)) (unused_of file (limited_records file now)) asked
-    (prepared_all v file now before asked prepared h))
+    → ((runs counted : List Data) (places : Option (List CopyPlace)) (change : Option GatedChange) (bare idle : ℕ) (asked : Option Reporting)
+    → IsPreparedAs runs counted places change policy bare idle asked prepared → IsMergedAs runs counted places change policy bare idle asked merged)
+    → (v : MatchingVersion) (file : File) (now before : List Placed) (change : Option GatedChange) (asked : Option Reporting)
+    → IsPrepared v file now before change policy asked prepared → IsMergedBy v file now before change policy asked merged
+merged_by prepared policy merged made = λ v file now before change asked h.
+    merged_all v file now before change policy asked merged
+    (made (runs_by v file now before) (runs_by v file now before) None change (runs_without_results (run_values now))
+    (unused_of file (limited_records file now)) asked (prepared_all v file now before change policy asked prepared h))
 
 -- there is a mark for each result
 pub flags_are : (copies : Option CopyFlags) (current baseline : Side)
@@ -86,16 +91,18 @@ counts_same f g each = λ i s l b. each s l b i
 
 -- a merge whose log is that of what was prepared
 pub merged_as : (prepared : Prepared) (policy : Policy) (made : Merged)
-    → ((runs counted : List Data) → AreWrittenWith prepared.copies prepared.current prepared.baseline runs counted
-    → IsLogWith runs counted (places_by prepared.copies prepared.current prepared.baseline) policy prepared.without prepared.unused made)
+    → ((runs counted : List Data) (change : Option GatedChange) → AreWrittenWith prepared.copies prepared.current prepared.baseline runs counted
+    → prepared.change ≡ facts_by change policy counted
+    → IsLogWith runs counted (places_by prepared.copies prepared.current prepared.baseline) change policy prepared.without prepared.unused made)
     → made.findings.items ≡ prepared.findings.items
-    → (runs counted : List Data) (places : Option (List CopyPlace)) (bare idle : ℕ) (asked : Option Reporting)
-    → IsPreparedAs runs counted places bare idle asked prepared → IsMergedAs runs counted places policy bare idle asked made
-merged_as prepared policy made log findings = λ runs counted places bare idle asked h. record {
-  written =
-      subst (λ n. IsLogWith runs counted places policy bare n made) h.unused
-      (subst (λ n. IsLogWith runs counted places policy n prepared.unused made) h.without
-      (subst (λ ps. IsLogWith runs counted ps policy prepared.without prepared.unused made) h.named (log runs counted h.written)));
-  told = findings ∙ h.told;
-  copies = (log runs counted h.written).named ∙ ap (option_map length) h.named;
-}
+    → (runs counted : List Data) (places : Option (List CopyPlace)) (change : Option GatedChange) (bare idle : ℕ) (asked : Option Reporting)
+    → IsPreparedAs runs counted places change policy bare idle asked prepared → IsMergedAs runs counted places change policy bare idle asked made
+merged_as prepared policy made log findings = λ runs counted places change bare idle asked h.
+    let made_so = log runs counted change h.written h.change in record {
+      written =
+          subst (λ n. IsLogWith runs counted places change policy bare n made) h.unused
+          (subst (λ n. IsLogWith runs counted places change policy n prepared.unused made) h.without
+          (subst (λ ps. IsLogWith runs counted ps change policy prepared.without prepared.unused made) h.named made_so));
+      told = findings ∙ h.told;
+      copies = made_so.named ∙ ap (option_map length) h.named;
+    }

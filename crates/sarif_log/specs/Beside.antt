@@ -12,6 +12,7 @@ pub record AreFactsOf (merged : Merged) (facts : Facts) : Type 0 where
   pub unused : facts.unused ≡ merged.unused
   pub expired : facts.expired ≡ merged.expired
   pub findings : facts.findings.now ≡ merged.findings
+  pub change : facts.change ≡ merged.change
   pub copies : facts.copies ≡ merged.copies
   pub life : facts.life.now ≡ merged.life
 

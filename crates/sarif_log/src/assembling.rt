@@ -10,6 +10,7 @@ ghost use Rattle.sarif_log.specs.declared.copies.CopyPlace.{CopyPlace};
 ghost use Rattle.sarif_log.specs.Beside.{IsMadeBy};
 ghost use Rattle.sarif_log.specs.Assembled.{IsMergedBy};
 ghost use Rattle.sarif_log.specs.Internal.Prepared.{IsPrepared, IsPreparedAs};
+ghost use Rattle.sarif_scope.specs.declared.gated.GatedChange.{GatedChange};
 ghost use denote.Param.Send.{IsSend};
 
 use crate::facts::Facts;
@@ -40,13 +41,17 @@ pub fn assemble<
 ) -> Result<(Merged, B), AllocError>
     requires tells { Tell.IsAlwaysCallable tell }
     ensures merged { IfOk result (λ made. (version : MatchingVersion) (file : File)
-        (current_runs baseline_runs : List Placed) (asked : Option Reporting)
-        → IsPrepared version file current_runs baseline_runs asked prepared
-        → IsMergedBy version file current_runs baseline_runs options.now.policy asked made.0) }
+        (current_runs baseline_runs : List Placed) (change : Option GatedChange)
+        (asked : Option Reporting)
+        → IsPrepared version file current_runs baseline_runs change options.now.policy asked
+        prepared
+        → IsMergedBy version file current_runs baseline_runs change options.now.policy asked
+        made.0) }
     ensures counted { IfOk result (λ made. (runs counted : List Data)
-        (places : Option (List CopyPlace)) (bare idle : ℕ) (asked : Option Reporting)
-        → IsPreparedAs runs counted places bare idle asked prepared
-        → IsMergedAs runs counted places options.now.policy bare idle asked made.0) }
+        (places : Option (List CopyPlace)) (change : Option GatedChange) (bare idle : ℕ)
+        (asked : Option Reporting)
+        → IsPreparedAs runs counted places change options.now.policy bare idle asked prepared
+        → IsMergedAs runs counted places change options.now.policy bare idle asked made.0) }
     ensures expired { IfOk result (λ made. made.0.expired ≡ prepared.expired) }
     ensures life { IfOk result (λ made. made.0.life ≡ prepared.life) }
     ensures told { IfOk result (λ made. IsMadeBy Tell.FnOnce tell made.0 (Ok made.1)) }
@@ -54,9 +59,12 @@ pub fn assemble<
     let write = move || -> Result<(Merged, B), AllocError>
         requires { Tell.IsAlwaysCallable tell }
         ensures counted { IfOk result (λ made. (runs counted : List Data)
-            (places : Option (List CopyPlace)) (bare idle : ℕ) (asked : Option Reporting)
-            → IsPreparedAs runs counted places bare idle asked prepared
-            → IsMergedAs runs counted places options.entry.now.policy bare idle asked made.0) }
+            (places : Option (List CopyPlace)) (change : Option GatedChange) (bare idle : ℕ)
+            (asked : Option Reporting)
+            → IsPreparedAs runs counted places change options.entry.now.policy bare idle asked
+            prepared
+            → IsMergedAs runs counted places change options.entry.now.policy bare idle asked
+            made.0) }
         ensures expired { IfOk result (λ made. made.0.expired ≡ prepared.expired) }
         ensures life { IfOk result (λ made. made.0.life ≡ prepared.life) }
         ensures told { IfOk result (λ made. IsMadeBy Tell.FnOnce tell made.0 (Ok made.1)) }

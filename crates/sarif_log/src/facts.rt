@@ -1,6 +1,7 @@
 //! What outputs besides the log are made of.
 use sarif_counts::{Counts, Life};
 use sarif_findings::Finding;
+use sarif_scope::ChangeFacts;
 
 /// What is known about a merge before the text of its log is made. Its other outputs are made from it.
 #[derive(Clone, Copy)]
@@ -15,6 +16,8 @@ pub struct Facts<'m> {
     pub expired: u32,
     /// The findings of the results, in the order of the log; empty if none were requested.
     pub findings: &'m Vec<Finding>,
+    /// What the gate says about the change that it checks, if it checks one.
+    pub change: Option<ChangeFacts>,
     /// How many copies the gate names, if copies aren't counted.
     pub copies: Option<u64>,
     /// What is for later merges.

@@ -23,6 +23,7 @@ pub use facts::Facts;
 pub use laws::suppressed_results_are_counted_as_suppressed;
 pub use merged::Merged;
 pub use merged_text::{Side, log_text};
+pub use places::mask_states;
 pub use prepared::{CopyFlags, Prepared, Spent};
 pub use run_parts::RunParts;
 pub use tally::count_results;

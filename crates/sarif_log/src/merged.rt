@@ -2,6 +2,7 @@
 use sarif_counts::{Counts, Life, Verdict};
 use sarif_findings::Finding;
 use sarif_model::Text;
+use sarif_scope::ChangeFacts;
 
 /// A merged log, and what its gate says.
 #[derive(Debug, Drop)]
@@ -10,8 +11,10 @@ pub struct Merged {
     pub log: Text,
     /// Its results, counted.
     pub counts: Counts,
-    /// What the policy makes of the counts.
+    /// What the policy makes of the counts, and of the change if the gate checks one.
     pub verdict: Verdict,
+    /// What its gate says about the change that it checks, if it checks one.
+    pub change: Option<ChangeFacts>,
     /// How many input runs have no results.
     pub without: u32,
     /// How many entries of the suppression file match no current result.

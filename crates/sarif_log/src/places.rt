@@ -97,9 +97,9 @@ fn unless_marked(state: Option<State>, is_marked: bool) -> Option<State>
     if is_marked { None } else { state }
 }
 
-/// The states of results, without those of marked results: copies aren't counted. Returns `AllocError` if memory runs
-/// out.
-pub(crate) fn mask_states(
+/// Returns the states of results, without those of marked results. Copies aren't counted, for example. Returns
+/// `AllocError` if memory runs out.
+pub fn mask_states(
     alloc: Global,
     states: &[Option<State>],
     marks: &[bool],
@@ -115,7 +115,8 @@ pub(crate) fn mask_states(
     Ok(all)
 }
 
-/// The places of the copies in the merged log, if copies aren't counted. Returns `AllocError` if memory runs out.
+/// Returns the places of the copies in the merged log, if copies aren't counted. Returns `AllocError` if memory runs
+/// out.
 pub(crate) fn list_places(
     alloc: Global,
     current: &Side,

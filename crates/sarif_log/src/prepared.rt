@@ -8,6 +8,7 @@ use crate::merged_text::Side;
 use sarif_counts::Life;
 use sarif_findings::Finding;
 use sarif_model::Record;
+use sarif_scope::ChangeFacts;
 
 /// The records of results that were matched. Nothing is made of them any more.
 #[derive(Drop)]
@@ -42,6 +43,8 @@ pub struct Prepared {
     pub expired: u32,
     /// The findings of its results, in order.
     pub findings: Vec<Finding>,
+    /// What the gate says about the change that it checks, if it checks one.
+    pub change: Option<ChangeFacts>,
     /// What is for later merges.
     pub life: Life,
     /// Which results are copies, where copies aren't counted.

@@ -1,5 +1,5 @@
 //! Writing the log: its gate and its text.
-ghost use Rattle.std.specs.Prelude.{◌≡◌, ◌+◌, ◌++◌, Bool, List, IfOk, Ok, false, length, map, option_map, string_bytes};
+ghost use Rattle.std.specs.Prelude.{◌≡◌, ◌+◌, ◌++◌, Bool, List, Option, IfOk, Ok, false, length, map, option_map, string_bytes};
 ghost use Rattle.serde_json.specs.Data.{Data};
 ghost use Rattle.serde_json.specs.View.{view};
 ghost use Rattle.serde_json.specs.Written.{compact_text, has_float};
@@ -7,7 +7,8 @@ ghost use Rattle.sarif_log.specs.Log.{log_with};
 ghost use Rattle.sarif_log.specs.Internal.Side.{IsSide, texts_of_left, texts_of_runs};
 ghost use Rattle.sarif_log.specs.Beside.{IsMadeBy, IsToldBy};
 ghost use Rattle.sarif_counts.specs.Counts.{count_at};
-ghost use Rattle.sarif_counts.specs.Gate.{gate_of};
+ghost use Rattle.sarif_scope.specs.Told.{facts_by, gate_told};
+ghost use Rattle.sarif_scope.specs.declared.gated.GatedChange.{GatedChange};
 ghost use Rattle.sarif_log.specs.Counted.{IsLogWith};
 ghost use Rattle.sarif_log.specs.Copies.{naming};
 ghost use Rattle.sarif_log.specs.Internal.Copied.{baseline_marks, counted_if, current_marks, places_by};
@@ -23,10 +24,11 @@ use crate::merged::Merged;
 use crate::merged_text::{Side, log_text};
 use crate::places::list_places;
 use crate::prepared::Prepared;
-use sarif_counts::{Counts, Life, gate_value, verdict};
+use sarif_counts::{Counts, Life};
 use sarif_findings::Finding;
 use sarif_model::Text;
 use sarif_options::{Options, Policy};
+use sarif_scope::{ChangeFacts, gate_value_told, verdict_told};
 use serde_json::Value;
 use std::alloc::{AllocError, Global};
 use std::thread;
@@ -65,17 +67,18 @@ fn text_beside<R: Threads + Sync, T: Drop, Say: FnOnce() -> T>(
 fn named_gate(
     alloc: Global,
     counts: &Counts,
+    prepared: &Prepared,
     policy: &Policy,
-    without: u32,
-    unused: u32,
     places: &Option<Vec<CopyPlace>>,
 ) -> Result<Value, AllocError>
     ensures value { IfOk result (λ v. view v
         ≡ naming (option_map (λ list. list.items) places.now)
-        (gate_of (count_at counts.now) policy.now without unused)) }
+        (gate_told prepared.now.change (count_at counts.now) policy.now
+        prepared.now.without prepared.now.unused)) }
     ensures whole { IfOk result (λ v. has_float (view v) ≡ false) }
 {
-    let gate = gate_value(alloc, counts, policy, without, unused)?;
+    let (without, unused) = (prepared.without, prepared.unused);
+    let gate = gate_value_told(alloc, counts, policy, without, unused, &prepared.change)?;
     name_if(alloc, gate, places)
 }
 
@@ -89,10 +92,11 @@ fn count_places(places: &Option<Vec<CopyPlace>>) -> Option<u64>
     }
 }
 
-/// The numbers of a log: what its gate counts, and how many copies it has if these are known.
+/// The numbers of a log: what its gate counts and says about a change, and how many copies it has if these are known.
 #[derive(Drop)]
 struct LogNumbers {
     counts: Counts,
+    change: Option<ChangeFacts>,
     copies: Option<u64>,
 }
 
@@ -121,25 +125,28 @@ fn weigh<R: Threads + Sync>(
         s l b) }
     ensures gate { IfOk result (λ made. view made.gate
         ≡ naming (places_by prepared.now.copies prepared.now.current prepared.now.baseline)
-        (gate_of (count_at made.numbers.counts) options.now.policy
+        (gate_told prepared.now.change (count_at made.numbers.counts) options.now.policy
         prepared.now.without prepared.now.unused)) }
     ensures whole { IfOk result (λ made. has_float (view made.gate) ≡ false) }
+    ensures change { IfOk result (λ made. made.numbers.change ≡ prepared.now.change) }
     ensures copies { IfOk result (λ made. made.numbers.copies ≡ option_map length
         (places_by prepared.now.copies prepared.now.current prepared.now.baseline)) }
 {
     let Prepared {
         current,
         baseline,
-        without,
-        unused,
         copies,
         ..
     } = prepared;
     let counts = count_sides(rt, alloc, current, baseline, copies, options.workers)?;
     let places = list_places(alloc, current, baseline, copies)?;
-    let gate = named_gate(alloc, &counts, &options.policy, *without, *unused, &places)?;
+    let gate = named_gate(alloc, &counts, prepared, &options.policy, &places)?;
     let copies = count_places(&places);
-    let numbers = LogNumbers { counts, copies };
+    let numbers = LogNumbers {
+        counts,
+        change: prepared.change,
+        copies,
+    };
     Ok(Weighed { numbers, gate })
 }
 
@@ -157,6 +164,7 @@ fn facts_of<'m>(
     ensures unused { result.unused ≡ unused }
     ensures expired { result.expired ≡ expired }
     ensures findings { result.findings.now ≡ findings.now }
+    ensures change { result.change ≡ numbers.now.change }
     ensures copies { result.copies ≡ numbers.now.copies }
     ensures life { result.life.now ≡ life.now }
 {
@@ -166,6 +174,7 @@ fn facts_of<'m>(
         unused,
         expired,
         findings,
+        change: numbers.change,
         copies: numbers.copies,
         life,
     }
@@ -185,18 +194,19 @@ pub(crate) fn write_log<
     tell: Tell,
 ) -> Result<(Merged, B), AllocError>
     requires tells { Tell.IsAlwaysCallable tell }
-    ensures log { IfOk result (λ made. (runs counted : List Data)
+    ensures log { IfOk result (λ made. (runs counted : List Data) (change : Option GatedChange)
         → AreWrittenWith prepared.copies prepared.current prepared.baseline runs counted
+        → prepared.change ≡ facts_by change options.now.policy counted
         → IsLogWith runs counted
         (places_by prepared.copies prepared.current prepared.baseline)
-        options.now.policy prepared.without prepared.unused made.0) }
+        change options.now.policy prepared.without prepared.unused made.0) }
     ensures expired { IfOk result (λ made. made.0.expired ≡ prepared.expired) }
     ensures findings { IfOk result (λ made. made.0.findings.items ≡ prepared.findings.items) }
     ensures life { IfOk result (λ made. made.0.life ≡ prepared.life) }
     ensures told { IfOk result (λ made. IsMadeBy Tell.FnOnce tell made.0 (Ok made.1)) }
 {
     let Weighed { numbers, gate } = weigh(rt, alloc, &prepared, options)?;
-    let verdict = verdict(&numbers.counts, &options.policy);
+    let verdict = verdict_told(&numbers.counts, &options.policy, &numbers.change);
     let Prepared {
         current,
         baseline,
@@ -221,6 +231,7 @@ pub(crate) fn write_log<
         log: Text::from_string(text?)?,
         counts: numbers.counts,
         verdict,
+        change: numbers.change,
         without,
         unused,
         expired,

@@ -16,8 +16,8 @@ use Rattle.sarif_model.specs.declared.merge_fault.MergeFault.{MergeFault}
 use Rattle.sarif_model.specs.declared.merge_fault.Source.TheVariants.{Log, Baseline}
 use Rattle.sarif_options.specs.declared.policy.Policy.{Policy}
 use Rattle.sarif_findings.specs.declared.reporting.Reporting.{Reporting}
-use Rattle.sarif_counts.specs.CountOf.{count_of}
-use Rattle.sarif_counts.specs.Gate.{gate_of}
+use Rattle.sarif_scope.specs.Gate.{gate_by}
+use Rattle.sarif_scope.specs.declared.gated.GatedChange.{GatedChange}
 use Rattle.sarif_runs.specs.Judging.{faults_of_runs, run_faults, run_values}
 use Rattle.sarif_runs.specs.Placed.{Placed}
 use Rattle.sarif_log.specs.declared.merged.Merged.{Merged}
@@ -41,35 +41,41 @@ use Rattle.sarif_upkeep.specs.Life.{life_faults}
 use Rattle.sarif_prepare.specs.Kept.{IsKept}
 use Rattle.sarif_choice.specs.declared.choice.Choosing.{Choosing}
 use Rattle.sarif_merge.specs.Merged.{IsMerged}
-use Rattle.sarif_merge.specs.MergedLog.{file_in}
+use Rattle.sarif_merge.specs.MergedLog.{change_given, file_in}
 use Rattle.sarif_merge.specs.Internal.Prepared.{IsPreparedFor}
 use Rattle.sarif_model.specs.Limits.{most_sources}
 
 -- ---- what is assembled
 
-pub same_runs : (v : Checks) (file : File) (now before xs ys : List Placed) (asked : Option Reporting) (prepared : Prepared)
-    → IsPreparedBy v file now before asked prepared → now ≡ xs → before ≡ ys → IsPreparedBy v file xs ys asked prepared
-same_runs v file now before xs ys asked prepared h e f =
-    subst (λ k. IsPreparedBy v file xs k asked prepared) f (subst (λ k. IsPreparedBy v file k before asked prepared) e h)
+pub same_runs : (v : Checks) (file : File) (now before xs ys : List Placed) (change : Option GatedChange) (policy : Policy) (asked : Option Reporting)
+    (prepared : Prepared) → IsPreparedBy v file now before change policy asked prepared → now ≡ xs → before ≡ ys
+    → IsPreparedBy v file xs ys change policy asked prepared
+same_runs v file now before xs ys change policy asked prepared h e f =
+    subst (λ k. IsPreparedBy v file xs k change policy asked prepared) f (subst (λ k. IsPreparedBy v file k before change policy asked prepared) e h)
 
 -- what is for later merges, of the same runs
-pub same_kept : (v : Checks) (file : File) (bytes : Option (List ℕ)) (policy : Policy) (choice : Option Choosing) (now before xs ys : List Placed) (upkeep : Option Upkeep) (life : Life)
-    → IsKept (merge_by v file bytes policy choice now before) upkeep life → now ≡ xs → before ≡ ys → IsKept (merge_by v file bytes policy choice xs ys) upkeep life
-same_kept v file bytes policy choice now before xs ys upkeep life h e f =
-    subst (λ k. IsKept (merge_by v file bytes policy choice xs k) upkeep life) f (subst (λ k. IsKept (merge_by v file bytes policy choice k before) upkeep life) e h)
+pub same_kept : (v : Checks) (file : File) (bytes : Option (List ℕ)) (change : Option GatedChange) (policy : Policy) (choice : Option Choosing)
+    (now before xs ys : List Placed) (upkeep : Option Upkeep) (life : Life)
+    → IsKept (merge_by v file bytes change policy choice now before) upkeep life → now ≡ xs → before ≡ ys
+    → IsKept (merge_by v file bytes change policy choice xs ys) upkeep life
+same_kept v file bytes change policy choice now before xs ys upkeep life h e f =
+    subst (λ k. IsKept (merge_by v file bytes change policy choice xs k) upkeep life) f
+    (subst (λ k. IsKept (merge_by v file bytes change policy choice k before) upkeep life) e h)
 
-pub same_large : (v : Checks) (file : File) (bytes : Option (List ℕ)) (policy : Policy) (choice : Option Choosing) (now before xs ys : List Placed) (upkeep : Option Upkeep) (fault : MergeFault)
-    → first (life_faults (merge_by v file bytes policy choice now before) upkeep) ≡ Some fault → now ≡ xs → before ≡ ys
-    → first (life_faults (merge_by v file bytes policy choice xs ys) upkeep) ≡ Some fault
-same_large v file bytes policy choice now before xs ys upkeep fault h e f =
-    subst (λ k. first (life_faults (merge_by v file bytes policy choice xs k) upkeep) ≡ Some fault) f
-    (subst (λ k. first (life_faults (merge_by v file bytes policy choice k before) upkeep) ≡ Some fault) e h)
+pub same_large : (v : Checks) (file : File) (bytes : Option (List ℕ)) (change : Option GatedChange) (policy : Policy) (choice : Option Choosing)
+    (now before xs ys : List Placed) (upkeep : Option Upkeep) (fault : MergeFault)
+    → first (life_faults (merge_by v file bytes change policy choice now before) upkeep) ≡ Some fault → now ≡ xs → before ≡ ys
+    → first (life_faults (merge_by v file bytes change policy choice xs ys) upkeep) ≡ Some fault
+same_large v file bytes change policy choice now before xs ys upkeep fault h e f =
+    subst (λ k. first (life_faults (merge_by v file bytes change policy choice xs k) upkeep) ≡ Some fault) f
+    (subst (λ k. first (life_faults (merge_by v file bytes change policy choice k before) upkeep) ≡ Some fault) e h)
 
 -- what is assembled of what was prepared for these inputs
 pub assembled_is : (inputs : Inputs) (policy : Policy) (asked : Option Reporting) (choice : Option Choosing) (upkeep : Option Upkeep) (prepared : Prepared)
     (merged : Merged) → IsPreparedFor inputs policy asked choice upkeep prepared
-    → ((runs counted : List Data) (places : Option (List CopyPlace)) (bare idle : ℕ) (told : Option Reporting)
-    → IsPreparedAs runs counted places bare idle told prepared → IsMergedAs runs counted places policy bare idle told merged)
+    → ((runs counted : List Data) (places : Option (List CopyPlace)) (change : Option GatedChange) (bare idle : ℕ) (told : Option Reporting)
+    → IsPreparedAs runs counted places change policy bare idle told prepared
+    → IsMergedAs runs counted places change policy bare idle told merged)
     → merged.expired ≡ prepared.expired
     → IsMerged inputs policy asked merged
 assembled_is inputs policy asked choice upkeep prepared merged ready assembled past =
@@ -81,10 +87,10 @@ assembled_is inputs policy asked choice upkeep prepared merged ready assembled p
     let places = copies_if checks.once checks.matching logs baselines in
     let bare = runs_without_results (run_values logs) in
     let idle = unused_of entries (limited_records entries (counted_if checks.once logs)) in
-    let made = assembled (written_if checks.once checks.matching entries logs baselines) counted places bare idle asked ready.written in record {
+    let made = assembled (written_if checks.once checks.matching entries logs baselines) counted places (change_given inputs) bare idle asked ready.written in record {
       faultless = ready.faultless;
       begins = (
-        naming places (gate_of (count_of counted) policy bare idle),
+        naming places (gate_by (change_given inputs) counted policy bare idle),
         left_if checks.once checks.matching logs baselines,
         made.written.log,
       );

@@ -34,6 +34,7 @@ use Rattle.sarif_log.specs.LogBy.{listing_of, partner_in, states_from, states_of
 use Rattle.sarif_results.proofs.JudgedCounts.{no_fault, no_faults_here, no_faults_left, records_of_log, records_of_logs}
 use Rattle.sarif_log.proofs.Limits.{limited_at_place, limited_long}
 use Rattle.sarif_log.proofs.Sides.{states_long}
+use Rattle.sarif_inputs.specs.ChangeIn.{change_read, faults_of_change}
 use Rattle.sarif_inputs.specs.Faults.{faults_of, file_faults, number_faults}
 use Rattle.sarif_entries.specs.Given.{file_or_none}
 use Rattle.sarif_inputs.specs.Inputs.{Inputs, all_runs, all_sources, baseline_runs, input_runs, reading_checks, record_options}
@@ -219,10 +220,12 @@ faultless_runs inputs none =
     let runs = faults_of_runs (all_runs inputs) in
     let files = file_faults (file_or_none inputs.suppressions inputs.today) in
     let sources = source_faults 0 0 (all_sources inputs) in
-    let after_logs = no_faults_left (number_faults Log inputs.logs) (number_faults Baseline inputs.baselines ++ (sources ++ (files ++ runs))) none in
-    let after_baselines = no_faults_left (number_faults Baseline inputs.baselines) (sources ++ (files ++ runs)) after_logs in
-    let after_sources = no_faults_left sources (files ++ runs) after_baselines in
-    let of_runs = no_faults_left files runs after_sources in
+    let change = faults_of_change (change_read inputs.checks inputs.diff) in
+    let after_logs = no_faults_left (number_faults Log inputs.logs) (number_faults Baseline inputs.baselines ++ (sources ++ (files ++ (change ++ runs)))) none in
+    let after_baselines = no_faults_left (number_faults Baseline inputs.baselines) (sources ++ (files ++ (change ++ runs))) after_logs in
+    let after_sources = no_faults_left sources (files ++ (change ++ runs)) after_baselines in
+    let after_files = no_faults_left files (change ++ runs) after_sources in
+    let of_runs = no_faults_left change runs after_files in
     no_faults_here (faults_of_runs (input_runs inputs)) (faults_of_runs (baseline_runs inputs))
     (sym (flat_map-append run_faults (input_runs inputs) (baseline_runs inputs)) ∙ of_runs)
 

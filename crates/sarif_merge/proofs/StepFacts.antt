@@ -23,7 +23,9 @@ use Rattle.sarif_results.specs.Drafts.{IsRun}
 use Rattle.sarif_results.specs.Internal.Judged.{IsJudged, placed_in}
 use Rattle.sarif_results.specs.Internal.Outcomes.{all_outcomes}
 use Rattle.sarif_results.specs.declared.judged.Judged.{Judged}
+use Rattle.sarif_inputs.specs.ChangeIn.{change_or_none, change_read, faults_of_change}
 use Rattle.sarif_inputs.specs.Faults.{faults_of, file_faults}
+use Rattle.sarif_scope.specs.declared.gated.GatedChange.{GatedChange}
 use Rattle.sarif_entries.specs.Given.{file_or_none}
 use Rattle.sarif_inputs.specs.Internal.Indexes.{AreIndexesOf}
 use Rattle.sarif_inputs.specs.Inputs.{all_runs, all_sources, baseline_runs, input_runs, numbered, placed, reading_checks}
@@ -49,8 +51,8 @@ use Rattle.sarif_upkeep.specs.Internal.IsMatched.{IsFileOf}
 use Rattle.sarif_upkeep.specs.Life.{life_faults}
 use Rattle.sarif_merge.specs.Life.{IsLifeOf, IsRefusal}
 use Rattle.sarif_merge.specs.Merged.{IsMerged}
-use Rattle.sarif_merge.specs.MergedLog.{file_given, file_in}
-use Rattle.sarif_merge.specs.Internal.Steps.{AreBaselinesJudged, AreBaselinesOpened, AreBaselinesReady, AreIndexesIn, AreLogsJudged, AreLogsOpened, AreLogsReady, AreLogsSound, AreOpened, IsFileIn, IsMergeOf, IsReady, IsRead, IsRejection, checks_in, inputs_in, policy_in}
+use Rattle.sarif_merge.specs.MergedLog.{change_given, file_given, file_in}
+use Rattle.sarif_merge.specs.Internal.Steps.{AreBaselinesJudged, AreBaselinesOpened, AreBaselinesReady, AreIndexesIn, AreLogsJudged, AreLogsOpened, AreLogsReady, AreLogsSound, AreOpened, IsChangeIn, IsFileIn, IsMergeOf, IsReady, IsRead, IsRejection, change_read_in, checks_in, inputs_in, policy_in}
 use Rattle.sarif_merge.specs.declared.steps.Merging.{Merging}
 use Rattle.sarif_merge.proofs.ReadObjects.{objects_in}
 use Rattle.sarif_merge.proofs.MergeAnswers.{are_indexes, assembled_is, faults_apart, left_after_first, number_is_no_fault, same_kept, same_large, same_runs}
@@ -100,15 +102,19 @@ pub baselines_opened : (m : Merging) (runs : Runs) → AreRunsOf (inputs_in m).c
 unfolding AreBaselinesOpened
 baselines_opened m runs read = record { are = read.baseline; few = omega (arith, read.few); few_results = omega (arith, read.few_results) }
 
+-- the errors of the diff and of the runs
+abbrev after_file : Merging → List MergeFault
+after_file m = faults_of_change (change_read_in m) ++ faults_of_runs (all_runs (inputs_in m))
+
 -- what is left of the errors once the sources are read
 after_sources : (m : Merging) → length (inputs_in m).logs ≤ most_sources → length (inputs_in m).baselines ≤ most_sources
     → faults_of (inputs_in m)
     ≡ source_faults 0 0 (all_sources (inputs_in m))
-    ++ (file_faults (file_or_none (inputs_in m).suppressions (inputs_in m).today) ++ faults_of_runs (all_runs (inputs_in m)))
+    ++ (file_faults (file_or_none (inputs_in m).suppressions (inputs_in m).today) ++ after_file m)
 after_sources m few_logs few_baselines =
     let inputs = inputs_in m in
     number_is_no_fault inputs.logs inputs.baselines few_logs few_baselines
-    (source_faults 0 0 (all_sources inputs) ++ (file_faults (file_or_none inputs.suppressions inputs.today) ++ faults_of_runs (all_runs inputs)))
+    (source_faults 0 0 (all_sources inputs) ++ (file_faults (file_or_none inputs.suppressions inputs.today) ++ after_file m))
 
 -- regions change no error of the sources
 sources_alike : (m : Merging) → source_faults 0 0 (sources_of (checks_in m) (inputs_in m).logs (inputs_in m).baselines) ≡ source_faults 0 0 (all_sources (inputs_in m))
@@ -124,7 +130,7 @@ sources_alike m =
 pub sources_read : (m : Merging) (runs : Runs) → AreRunsOf (inputs_in m).checks (inputs_in m).logs (inputs_in m).baselines runs → IsRead m
 unfolding IsRead
 sources_read m runs read =
-    let rest = file_faults (file_or_none (inputs_in m).suppressions (inputs_in m).today) ++ faults_of_runs (all_runs (inputs_in m)) in
+    let rest = file_faults (file_or_none (inputs_in m).suppressions (inputs_in m).today) ++ after_file m in
     after_sources m read.few_logs read.few_baselines ∙ ap (λ faults. faults ++ rest) (sym (sources_alike m) ∙ read.faultless)
 
 pub rejected_sources : (m : Merging) (indexes : List (Result (List Token) IndexFault)) (fault : MergeFault) → AreIndexesIn m indexes
@@ -133,7 +139,7 @@ pub rejected_sources : (m : Merging) (indexes : List (Result (List Token) IndexF
 unfolding AreIndexesIn
 rejected_sources m indexes fault are found quiet =
     rejected_by m (source_faults 0 0 (all_sources (inputs_in m)))
-    (file_faults (file_or_none (inputs_in m).suppressions (inputs_in m).today) ++ faults_of_runs (all_runs (inputs_in m))) fault
+    (file_faults (file_or_none (inputs_in m).suppressions (inputs_in m).today) ++ after_file m) fault
     (after_sources m are.few_logs are.few_baselines)
     (subst (λ faults. IsOutOfResources fault ⊎ (first faults ≡ Some fault)) (sources_alike m) found) quiet
 
@@ -145,14 +151,36 @@ unfolding IsRead IsFileIn
 file_read m bytes file read is_bytes is_file =
     let is : file_or_none (inputs_in m).suppressions (inputs_in m).today ≡ Ok file =
     subst (λ b. file_or_none b (inputs_in m).today ≡ Ok file) is_bytes is_file in
-    (is, read ∙ ap (λ r. file_faults r ++ faults_of_runs (all_runs (inputs_in m))) is)
+    (is, read ∙ ap (λ r. file_faults r ++ after_file m) is)
 
 pub rejected_file : (m : Merging) (bytes : Option (List ℕ)) (fault : MergeFault) → IsRead m → bytes ≡ (inputs_in m).suppressions
     → IsOutOfResources fault ⊎ (first (file_faults (file_or_none bytes (inputs_in m).today)) ≡ Some fault) → exit_status fault.cause ≡ 2 → IsRejection m fault
 unfolding IsRead
 rejected_file m bytes fault read is_bytes found quiet =
-    rejected_by m (file_faults (file_or_none (inputs_in m).suppressions (inputs_in m).today)) (faults_of_runs (all_runs (inputs_in m))) fault read
+    rejected_by m (file_faults (file_or_none (inputs_in m).suppressions (inputs_in m).today)) (after_file m) fault read
     (subst (λ b. IsOutOfResources fault ⊎ (first (file_faults (file_or_none b (inputs_in m).today)) ≡ Some fault)) is_bytes found) quiet
+
+-- ---- read the diff
+
+pub change_is_in : (m : Merging) (file : File) (bytes : Option (List ℕ)) (change : Option GatedChange) → IsFileIn m file → bytes ≡ (inputs_in m).diff
+    → change ≡ change_or_none (change_read (checks_in m) bytes) → faults_of_change (change_read (checks_in m) bytes) ≡ [] → IsChangeIn m change
+unfolding IsFileIn IsChangeIn
+change_is_in m file bytes change read is_bytes is none =
+    let same : change_read (checks_in m) bytes ≡ change_read_in m = ap (change_read (checks_in m)) is_bytes in
+    let left : faults_of_change (change_read_in m) ≡ [] = ap faults_of_change (sym same) ∙ none in
+    (ap change_or_none (sym same) ∙ sym is, read.1 ∙ ap (λ faults. faults ++ faults_of_runs (all_runs (inputs_in m))) left)
+
+pub rejected_diff : (m : Merging) (file : File) (bytes : Option (List ℕ)) (fault : MergeFault) → IsFileIn m file → bytes ≡ (inputs_in m).diff
+    → IsOutOfResources fault ⊎ (first (faults_of_change (change_read (checks_in m) bytes)) ≡ Some fault) → exit_status fault.cause ≡ 2 → IsRejection m fault
+unfolding IsFileIn
+rejected_diff m file bytes fault read is_bytes found quiet =
+    rejected_by m (faults_of_change (change_read_in m)) (faults_of_runs (all_runs (inputs_in m))) fault read.1
+    (subst (λ b. IsOutOfResources fault ⊎ (first (faults_of_change (change_read (checks_in m) b)) ≡ Some fault)) is_bytes found) quiet
+
+-- the change is the one that the definitions read
+same_change : (m : Merging) (change : Option GatedChange) → IsChangeIn m change → change ≡ change_given (inputs_in m)
+unfolding IsChangeIn
+same_change m change read = sym read.0
 
 -- ---- read snippets
 
@@ -239,10 +267,10 @@ pub logs_sound : (m : Merging) (runs : List OpenedRun) → AreLogsReady m runs �
 unfolding AreLogsReady AreLogsSound
 logs_sound m runs opened none = ap faults_of_runs (sym opened.are) ∙ none
 
-pub rejected_logs : (m : Merging) (runs : List OpenedRun) (file : File) (fault : MergeFault) → AreLogsReady m runs → IsFileIn m file
+pub rejected_logs : (m : Merging) (runs : List OpenedRun) (change : Option GatedChange) (fault : MergeFault) → AreLogsReady m runs → IsChangeIn m change
     → IsOutOfResources fault ⊎ (first (faults_of_runs (map placed_of runs)) ≡ Some fault) → exit_status fault.cause ≡ 2 → IsRejection m fault
-unfolding AreLogsReady IsFileIn
-rejected_logs m runs file fault opened read found quiet =
+unfolding AreLogsReady IsChangeIn
+rejected_logs m runs change fault opened read found quiet =
     rejected_by m (faults_of_runs (input_runs (inputs_in m))) (faults_of_runs (baseline_runs (inputs_in m))) fault
     (read.1 ∙ faults_apart (input_runs (inputs_in m)) (baseline_runs (inputs_in m)))
     (subst (λ ps. IsOutOfResources fault ⊎ (first (faults_of_runs ps) ≡ Some fault)) opened.are found) quiet
@@ -257,10 +285,10 @@ baselines_judged m runs file judged opened read same outcomes none =
     judged_side m true (baseline_runs (inputs_in m)) runs file judged (baseline_sides checks 0 baselines) (objects_in (numbered checks Baseline 0 baselines))
     opened read same outcomes none
 
-pub rejected_baselines : (m : Merging) (runs : List OpenedRun) (file : File) (fault : MergeFault) → AreBaselinesReady m runs → IsFileIn m file → AreLogsSound m
+pub rejected_baselines : (m : Merging) (runs : List OpenedRun) (change : Option GatedChange) (fault : MergeFault) → AreBaselinesReady m runs → IsChangeIn m change → AreLogsSound m
     → IsOutOfResources fault ⊎ (first (faults_of_runs (map placed_of runs)) ≡ Some fault) → exit_status fault.cause ≡ 2 → IsRejection m fault
-unfolding AreBaselinesReady AreLogsSound IsFileIn
-rejected_baselines m runs file fault opened read sound found quiet =
+unfolding AreBaselinesReady AreLogsSound IsChangeIn
+rejected_baselines m runs change fault opened read sound found quiet =
     rejected_by m (faults_of_runs (baseline_runs (inputs_in m))) [] fault
     (read.1 ∙ left_after_first (input_runs (inputs_in m)) (baseline_runs (inputs_in m)) sound ∙ sym (append-nil _))
     (subst (λ ps. IsOutOfResources fault ⊎ (first (faults_of_runs ps) ≡ Some fault)) opened.are found) quiet
@@ -280,63 +308,75 @@ unfolding AreBaselinesJudged
 judged_second m file judged read baselines = subst (λ f. IsJudged f true judged) (sym (same_file m file read)) baselines.1
 
 -- no input has an error
-none_left : (m : Merging) (file : File) (now before : Judged) → IsFileIn m file → AreLogsJudged m now → AreBaselinesJudged m before
+none_left : (m : Merging) (change : Option GatedChange) (now before : Judged) → IsChangeIn m change → AreLogsJudged m now → AreBaselinesJudged m before
     → faults_of (inputs_in m) ≡ []
-unfolding IsFileIn AreLogsJudged AreBaselinesJudged
-none_left m file now before read logs baselines =
+unfolding IsChangeIn AreLogsJudged AreBaselinesJudged
+none_left m change now before read logs baselines =
     read.1 ∙ left_after_first (input_runs (inputs_in m)) (baseline_runs (inputs_in m)) (ap faults_of_runs (sym logs.0) ∙ logs.1.faultless)
     ∙ ap faults_of_runs (sym baselines.0) ∙ baselines.1.faultless
 
-pub is_ready : (m : Merging) (bytes : Option (List ℕ)) (file : File) (now before : Judged) (prepared : Prepared) → IsFileIn m file
-    → AreLogsJudged m now → AreBaselinesJudged m before
-    → bytes ≡ (inputs_in m).suppressions → IsPreparedBy (checks_in m) file (placed_in now) (placed_in before) (reporting_in m.asked.now) prepared
+pub is_ready : (m : Merging) (bytes : Option (List ℕ)) (file : File) (change : Option GatedChange) (now before : Judged) (prepared : Prepared) → IsFileIn m file
+    → IsChangeIn m change → AreLogsJudged m now → AreBaselinesJudged m before
+    → bytes ≡ (inputs_in m).suppressions
+    → IsPreparedBy (checks_in m) file (placed_in now) (placed_in before) change (policy_in m) (reporting_in m.asked.now) prepared
     → prepared.expired ≡ expired_of file (limited_records file (placed_in now))
-    → IsKept (merge_by (checks_in m) file bytes (policy_in m) (choice_in m.asked.now) (placed_in now) (placed_in before)) (upkeep_in m.asked.now) prepared.life → IsReady m prepared
+    → IsKept (merge_by (checks_in m) file bytes change (policy_in m) (choice_in m.asked.now) (placed_in now) (placed_in before)) (upkeep_in m.asked.now) prepared.life
+    → IsReady m prepared
 unfolding IsReady AreLogsJudged AreBaselinesJudged
-is_ready m bytes file now before prepared read logs baselines is ready past kept =
+is_ready m bytes file change now before prepared read looked logs baselines is ready past kept =
     let inputs = inputs_in m in
     let asked = reporting_in m.asked.now in
+    let choice = choice_in m.asked.now in
     let upkeep = upkeep_in m.asked.now in
     let xs = input_runs inputs in
     let ys = baseline_runs inputs in record {
-      faultless = none_left m file now before read logs baselines;
+      faultless = none_left m change now before looked logs baselines;
       written =
-          subst (λ f. IsPreparedBy (checks_in m) f xs ys asked prepared) (same_file m file read)
-          (same_runs (checks_in m) file (placed_in now) (placed_in before) xs ys asked prepared ready logs.0 baselines.0);
+          subst (λ f. IsPreparedBy (checks_in m) f xs ys (change_given inputs) (policy_in m) asked prepared) (same_file m file read)
+          (subst (λ c. IsPreparedBy (checks_in m) file xs ys c (policy_in m) asked prepared) (same_change m change looked)
+          (same_runs (checks_in m) file (placed_in now) (placed_in before) xs ys change (policy_in m) asked prepared ready logs.0 baselines.0));
       expired = past ∙ ap (λ runs. expired_of file (limited_records file runs)) logs.0
           ∙ ap (λ f. expired_of f (limited_records f xs)) (same_file m file read);
-      kept = subst (λ f. IsKept (merge_by (checks_in m) f inputs.suppressions (policy_in m) (choice_in m.asked.now) xs ys) upkeep prepared.life) (same_file m file read)
-          (subst (λ b. IsKept (merge_by (checks_in m) file b (policy_in m) (choice_in m.asked.now) xs ys) upkeep prepared.life) is
-          (same_kept (checks_in m) file bytes (policy_in m) (choice_in m.asked.now) (placed_in now) (placed_in before) xs ys upkeep prepared.life kept logs.0 baselines.0));
+      kept =
+          subst (λ f. IsKept (merge_by (checks_in m) f inputs.suppressions (change_given inputs) (policy_in m) choice xs ys) upkeep prepared.life) (same_file m file read)
+          (subst (λ c. IsKept (merge_by (checks_in m) file inputs.suppressions c (policy_in m) choice xs ys) upkeep prepared.life) (same_change m change looked)
+          (subst (λ b. IsKept (merge_by (checks_in m) file b change (policy_in m) choice xs ys) upkeep prepared.life) is
+          (same_kept (checks_in m) file bytes change (policy_in m) choice (placed_in now) (placed_in before) xs ys upkeep prepared.life kept logs.0 baselines.0)));
     }
 
-pub rejected_life : (m : Merging) (bytes : Option (List ℕ)) (file : File) (now before : Judged) (fault : MergeFault) → IsFileIn m file
-    → AreLogsJudged m now → AreBaselinesJudged m before
+pub rejected_life : (m : Merging) (bytes : Option (List ℕ)) (file : File) (change : Option GatedChange) (now before : Judged) (fault : MergeFault) → IsFileIn m file
+    → IsChangeIn m change → AreLogsJudged m now → AreBaselinesJudged m before
     → bytes ≡ (inputs_in m).suppressions
-    → IsUnkept (merge_by (checks_in m) file bytes (policy_in m) (choice_in m.asked.now) (placed_in now) (placed_in before)) (upkeep_in m.asked.now) fault → IsRejection m fault
+    → IsUnkept (merge_by (checks_in m) file bytes change (policy_in m) (choice_in m.asked.now) (placed_in now) (placed_in before)) (upkeep_in m.asked.now) fault
+    → IsRejection m fault
 unfolding IsRejection AreLogsJudged AreBaselinesJudged
-rejected_life m bytes file now before fault read logs baselines is unkept =
+rejected_life m bytes file change now before fault read looked logs baselines is unkept =
     let inputs = inputs_in m in
+    let choice = choice_in m.asked.now in
     let upkeep = upkeep_in m.asked.now in
     let xs = input_runs inputs in
     let ys = baseline_runs inputs in (
       elim unkept [
         | inl out ↦ inl (inl (inl out))
         | inr found ↦ inr (
-          none_left m file now before read logs baselines,
-          subst (λ f. first (life_faults (merge_by (checks_in m) f inputs.suppressions (policy_in m) (choice_in m.asked.now) xs ys) upkeep) ≡ Some fault) (same_file m file read)
-              (subst (λ b. first (life_faults (merge_by (checks_in m) file b (policy_in m) (choice_in m.asked.now) xs ys) upkeep) ≡ Some fault) is
-              (same_large (checks_in m) file bytes (policy_in m) (choice_in m.asked.now) (placed_in now) (placed_in before) xs ys upkeep fault found logs.0 baselines.0)),
+          none_left m change now before looked logs baselines,
+          subst (λ f. first (life_faults (merge_by (checks_in m) f inputs.suppressions (change_given inputs) (policy_in m) choice xs ys) upkeep) ≡ Some fault)
+              (same_file m file read)
+              (subst (λ c. first (life_faults (merge_by (checks_in m) file inputs.suppressions c (policy_in m) choice xs ys) upkeep) ≡ Some fault)
+              (same_change m change looked)
+              (subst (λ b. first (life_faults (merge_by (checks_in m) file b change (policy_in m) choice xs ys) upkeep) ≡ Some fault) is
+              (same_large (checks_in m) file bytes change (policy_in m) choice (placed_in now) (placed_in before) xs ys upkeep fault found logs.0 baselines.0))),
         )
       ],
-      unkept_quiet (merge_by (checks_in m) file bytes (policy_in m) (choice_in m.asked.now) (placed_in now) (placed_in before)) upkeep fault unkept,
+      unkept_quiet (merge_by (checks_in m) file bytes change (policy_in m) choice (placed_in now) (placed_in before)) upkeep fault unkept,
     )
 
 -- ---- assemble
 
 pub is_merge_of : (m : Merging) (prepared : Prepared) (merged : Merged) → IsReady m prepared
-    → ((runs counted : List Data) (places : Option (List CopyPlace)) (bare idle : ℕ) (told : Option Reporting)
-    → IsPreparedAs runs counted places bare idle told prepared → IsMergedAs runs counted places (policy_in m) bare idle told merged)
+    → ((runs counted : List Data) (places : Option (List CopyPlace)) (change : Option GatedChange) (bare idle : ℕ) (told : Option Reporting)
+    → IsPreparedAs runs counted places change (policy_in m) bare idle told prepared
+    → IsMergedAs runs counted places change (policy_in m) bare idle told merged)
     → merged.expired ≡ prepared.expired → merged.life ≡ prepared.life → IsMergeOf m merged
 unfolding IsReady IsMergeOf
 is_merge_of m prepared merged ready assembled past same = (

@@ -17,6 +17,7 @@ inputs_with contents today checks =
       logs = contents.logs;
       baselines = contents.baselines;
       suppressions = contents.suppressions;
+      diff = contents.diff;
       today = today;
       checks = checks;
       snippets = compares_snippets (file_in (file_or_none contents.suppressions today));

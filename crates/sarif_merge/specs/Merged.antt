@@ -7,10 +7,10 @@ use Rattle.sarif_findings.specs.declared.reporting.Reporting.{Reporting}
 use Rattle.sarif_log.specs.Log.{log_with}
 use Rattle.sarif_log.specs.declared.merged.Merged.{Merged}
 use Rattle.sarif_log.specs.Assembled.{HasGate}
-use Rattle.sarif_log.specs.Told.{told_of}
+use Rattle.sarif_log.specs.Told.{told_by}
 use Rattle.sarif_inputs.specs.Faults.{faults_of}
 use Rattle.sarif_inputs.specs.Inputs.{Inputs}
-use Rattle.sarif_merge.specs.MergedLog.{copies_in_log, expired_in, inputs_in_log, output_text, runs_counted, unused_counted, without_of}
+use Rattle.sarif_merge.specs.MergedLog.{change_given, copies_in_log, expired_in, inputs_in_log, output_text, runs_counted, unused_counted, without_of}
 
 -- the text begins with these runs, and goes on with others
 abbrev pub HoldsFirst : List Data → List ℕ → Type 0
@@ -25,7 +25,8 @@ pub record IsMerged (inputs : Inputs) (policy : Policy) (asked : Option Reportin
   pub faultless : faults_of inputs ≡ []
   pub begins : HoldsFirst (inputs_in_log inputs) merged.log
   pub log : merged.log ≡ output_text inputs policy
-  pub gate : HasGate (runs_counted inputs) policy (without_of inputs) (unused_counted inputs) merged
+  pub gate : HasGate (runs_counted inputs) (change_given inputs) policy (without_of inputs)
+      (unused_counted inputs) merged
   pub expired : merged.expired ≡ expired_in inputs
-  pub told : merged.findings.items ≡ told_of asked (runs_counted inputs)
+  pub told : merged.findings.items ≡ told_by (change_given inputs) asked (runs_counted inputs)
   pub copies : merged.copies ≡ option_map length (copies_in_log inputs)

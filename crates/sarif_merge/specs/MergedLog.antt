@@ -11,6 +11,8 @@ use Rattle.sarif_runs.specs.Judging.{records_of, run_values}
 use Rattle.sarif_log.specs.LogBy.{current_runs, expired_of, limited_records, runs_by, runs_without_results}
 use Rattle.sarif_log.specs.declared.copies.CopyPlace.{CopyPlace}
 use Rattle.sarif_entries.specs.Given.{file_or_none}
+use Rattle.sarif_inputs.specs.ChangeIn.{change_or_none, change_read}
+use Rattle.sarif_scope.specs.declared.gated.GatedChange.{GatedChange}
 use Rattle.sarif_inputs.specs.Inputs.{Inputs, input_runs, baseline_runs}
 use Rattle.sarif_prepare.specs.By.{copies_if, counted_if, inputs_if, logged_by, runs_counted_if, written_if}
 
@@ -21,6 +23,10 @@ file_in (Err fault) = record { entries = []; today = None }
 -- the suppression file of the inputs
 abbrev pub file_given : Inputs → File
 file_given inputs = file_in (file_or_none inputs.suppressions inputs.today)
+
+-- the change that the gate checks, if there is a diff
+abbrev pub change_given : Inputs → Option GatedChange
+change_given inputs = change_or_none (change_read inputs.checks inputs.diff)
 
 -- the records of all results of the logs
 abbrev pub current_of : Inputs → List Record
@@ -88,7 +94,8 @@ unused_counted inputs =
 
 abbrev pub merged_log : Inputs → Policy → Data
 merged_log inputs policy =
-    logged_by inputs.checks (file_given inputs) (input_runs inputs) (baseline_runs inputs) policy
+    logged_by inputs.checks (file_given inputs) (input_runs inputs) (baseline_runs inputs)
+    (change_given inputs) policy
 
 -- the text that is written: compact, members in the byte order of their names, nothing after it
 abbrev pub output_text : Inputs → Policy → List ℕ

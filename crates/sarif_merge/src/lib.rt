@@ -6,7 +6,10 @@ mod merge;
 mod merge_sources;
 mod steps;
 
-pub use laws::{each_result_is_written_as_its_own, merged_runs_hold_no_fraction};
+pub use laws::{
+    each_result_is_written_as_its_own, merged_runs_hold_no_fraction,
+    without_a_diff_all_results_count,
+};
 pub use merge::merge_bytes;
 pub use merge_sources::{merge_readers, merge_to};
 pub use sarif_counts::{Counts, KnownLog, Life, NewFile, Verdict, hits, summary, verdict};

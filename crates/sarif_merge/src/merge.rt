@@ -9,11 +9,11 @@ ghost use Rattle.sarif_inputs.specs.Faults.{faults_of, first_fault};
 ghost use Rattle.sarif_merge.specs.Given.{inputs_of};
 ghost use Rattle.sarif_merge.specs.Life.{IsLifeOf, IsRefusal, no_life};
 ghost use Rattle.sarif_merge.specs.Merged.{HoldsFirst, IsMerged};
-ghost use Rattle.sarif_merge.specs.MergedLog.{copies_in_log, expired_in, inputs_in_log, output_text, runs_counted, unused_counted, without_of};
-ghost use Rattle.sarif_merge.specs.Internal.Steps.{AreBaselinesOpened, AreLogsOpened, IsFileIn, IsReady, IsRejection};
+ghost use Rattle.sarif_merge.specs.MergedLog.{change_given, copies_in_log, expired_in, inputs_in_log, output_text, runs_counted, unused_counted, without_of};
+ghost use Rattle.sarif_merge.specs.Internal.Steps.{AreBaselinesOpened, AreLogsOpened, IsChangeIn, IsFileIn, IsReady, IsRejection};
 ghost use Rattle.sarif_model.specs.Limits.{most_sources};
 
-use crate::steps::Merging;
+use crate::steps::{FilesRead, Merging};
 use json::Scratch;
 use sarif_gather::Gate;
 use sarif_inputs::{Runs, check_numbers};
@@ -34,6 +34,29 @@ fn judge_few<G: Gate + Sync, R: Threads + Wait + Sync>(
     alloc: Global,
     merging: &Merging<'_, '_>,
     runs: Runs<'_, '_>,
+    files: &FilesRead<'_>,
+    observer: &G,
+) -> Result<Prepared, MergeFault>
+    requires logs { AreLogsOpened merging.now runs.current.items }
+    requires baselines { AreBaselinesOpened merging.now runs.baseline.items }
+    requires file { IsFileIn merging.now files.now.file.now }
+    requires change { IsChangeIn merging.now files.now.change.now }
+    ensures prepared { IfOk result (IsReady merging.now) }
+    ensures refused { IfErr result (IsRejection merging.now) }
+{
+    let Runs { current, baseline } = merging.read_snippets(runs, files.file);
+    let logs = merging.judge_logs(rt, alloc, current, files, observer)?;
+    let baselines = merging.judge_baselines(rt, alloc, baseline, files, observer)?;
+    merging.prepare(rt, alloc, logs, baselines, files)
+}
+
+/// Everything that is written for a merge of these runs with this suppression file: reads the diff, and then steps 4 to
+/// 6. The change is released at its end.
+fn judge_change<G: Gate + Sync, R: Threads + Wait + Sync>(
+    rt: &R,
+    alloc: Global,
+    merging: &Merging<'_, '_>,
+    runs: Runs<'_, '_>,
     file: &Suppressions,
     observer: &G,
 ) -> Result<Prepared, MergeFault>
@@ -43,10 +66,12 @@ fn judge_few<G: Gate + Sync, R: Threads + Wait + Sync>(
     ensures prepared { IfOk result (IsReady merging.now) }
     ensures refused { IfErr result (IsRejection merging.now) }
 {
-    let Runs { current, baseline } = merging.read_snippets(runs, file);
-    let logs = merging.judge_logs(rt, alloc, current, file, observer)?;
-    let baselines = merging.judge_baselines(rt, alloc, baseline, file, observer)?;
-    merging.prepare(rt, alloc, logs, baselines, file)
+    let change = merging.read_diff(alloc, file)?;
+    let files = FilesRead {
+        file,
+        change: &change,
+    };
+    judge_few(rt, alloc, merging, runs, &files, observer)
 }
 
 /// Everything that is written for a merge: steps 1 to 3, and then those on what they found. The indexes and the
@@ -68,7 +93,7 @@ fn prepare_few<G: Gate + Sync, R: Threads + Wait + Sync>(
     let indexes = (&*merging).index(rt, alloc, scratches)?;
     let runs = merging.open(rt, alloc, &indexes)?;
     let file = merging.read_file(alloc)?;
-    judge_few(rt, alloc, merging, runs, &file, observer)
+    judge_change(rt, alloc, merging, runs, &file, observer)
 }
 
 /// Merges at most `MOST_SOURCES` logs and as many baselines. Returns the merge and what `tell` computed from it.
@@ -111,13 +136,14 @@ pub(crate) fn tell_nothing(_facts: &Facts<'_>) -> Result<(), AllocError> {
 }
 
 /// Merges logs with baselines: gives each current result its effective level, its baseline state and its
-/// suppressions, adds the unmatched results of the baselines as absent, and computes the gate's verdict. The
-/// merged log and its counts depend only on the sources, the policy and today's date, and neither on the number of
-/// workers nor on their order. `observer` observes the judging of results. A rejection is the first error of the
-/// inputs with its place: `TooMany` if there are too many logs or baselines, and then the errors of reading the
-/// logs and the baselines, of the suppression file, of the logs' runs and results, and of the baselines' runs and
-/// results. Its cause is any except `TooLong`, `ReadFailed` and `WriteFailed`. `OutOfMemory`, if memory runs out,
-/// and `NoWorker`, if a thread cannot be started, have no place, and may be returned instead of any of these.
+/// suppressions, adds the unmatched results of the baselines as absent, and computes the gate's verdict. If there is a
+/// diff, only results inside its change can be hits. The merged log and its counts depend only on the sources, the
+/// policy and today's date, and neither on the number of workers nor on their order. `observer` observes the judging of
+/// results. A rejection is the first error of the inputs with its place: `TooMany` if there are too many logs or
+/// baselines, and then the errors of reading the logs and the baselines, of the suppression file, of the diff, of the
+/// logs' runs and results, and of the baselines' runs and results. Its cause is any except `TooLong`, `ReadFailed` and
+/// `WriteFailed`. `OutOfMemory`, if memory runs out, and `NoWorker`, if a thread cannot be started, have no place, and
+/// may be returned instead of any of these.
 #[tactic(auto, using(crate::proofs::Alone::life_alone, crate::proofs::Alone::refusal_alone))]
 pub fn merge_bytes<G: Gate + Sync, R: Threads + Wait + Sync>(
     rt: &R,
@@ -135,10 +161,11 @@ pub fn merge_bytes<G: Gate + Sync, R: Threads + Wait + Sync>(
     // After these come exactly the unmatched results of the baselines, as absent, and nothing after the log.
     ensures log { IfOk result (λ merged. merged.log
         ≡ output_text (inputs_of sources.now options.now) options.now.policy) }
-    // Counts, verdict and numbers are those of the results that are written and counted.
+    // Counts, verdict and numbers are those of the results that are written and counted. With a diff, the hits and
+    // the verdict are those of the results inside its change.
     ensures gate { let inputs = inputs_of sources.now options.now in
-        IfOk result (HasGate (runs_counted inputs) options.now.policy (without_of inputs)
-        (unused_counted inputs)) }
+        IfOk result (HasGate (runs_counted inputs) (change_given inputs) options.now.policy
+        (without_of inputs) (unused_counted inputs)) }
     // The number of unused entries that are expired is counted.
     ensures expired { IfOk result
         (λ merged. merged.expired ≡ expired_in (inputs_of sources.now options.now)) }

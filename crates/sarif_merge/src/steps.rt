@@ -8,13 +8,16 @@ ghost use Rattle.sarif_model.specs.Limits.{most_sources};
 use json::Scratch;
 use json_parts::{Index, IndexFault};
 use sarif_gather::Gate;
-use sarif_inputs::{Opening, Runs, index_sources, open_sources, read_file, read_snippets};
+use sarif_inputs::{
+    Opening, Runs, index_sources, look_at_change, open_sources, read_file, read_snippets,
+};
 use sarif_judge::{Team, judge_runs};
 use sarif_log::{Facts, Merged, Prepared, assemble};
 use sarif_model::MergeFault;
 use sarif_prepare::{Asked, FileRead, prepare_by};
 use sarif_results::Judged;
 use sarif_runs::OpenedRun;
+use sarif_scope::GatedChange;
 use sarif_streams::SourceBytes;
 use sarif_suppress::Suppressions;
 use std::alloc::{AllocError, Global};
@@ -28,6 +31,13 @@ fn slice_of(bytes: &Option<Vec<u8>>) -> Option<&[u8]>
     bytes.as_ref().map(Vec::as_slice)
 }
 
+/// Returns the change, if there is one.
+fn change_of(change: &Option<GatedChange>) -> Option<&GatedChange>
+    ensures { option_map (λ c. c.now) result ≡ change.now }
+{
+    change.as_ref()
+}
+
 /// A number of scratches.
 fn make_scratches(alloc: Global, count: usize) -> Result<Vec<Scratch>, AllocError>
     ensures { IfOk result (λ scratches. length scratches.items ≡ count) }
@@ -37,6 +47,13 @@ fn make_scratches(alloc: Global, count: usize) -> Result<Vec<Scratch>, AllocErro
         scratches.push(Scratch::new(alloc))?;
     }
     Ok(scratches)
+}
+
+/// The suppression file of a merge, and the change that its gate checks, if there is one.
+#[derive(Clone, Copy)]
+pub(crate) struct FilesRead<'f> {
+    pub(crate) file: &'f Suppressions,
+    pub(crate) change: &'f Option<GatedChange>,
 }
 
 /// A merge: its sources, and what is requested.
@@ -49,10 +66,10 @@ pub(crate) struct Merging<'m, 'o: 'm> {
 impl<'m, 'o: 'm> Merging<'m, 'o> {
     ghost use Rattle.std.specs.Prelude.{◌≡◌, ◌≤◌, ◌+◌, Ok, length, IfOk, IfErr, OnOk};
     ghost use Rattle.sarif_log.specs.Beside.{IsMadeBy};
-    ghost use Rattle.sarif_merge.specs.Internal.Steps.{AreBaselinesJudged, AreBaselinesOpened, AreBaselinesReady, AreIndexesIn, AreLogsJudged, AreLogsOpened, AreLogsReady, AreLogsSound, IsFileIn, IsMergeOf, IsReady, IsRead, IsRejection};
+    ghost use Rattle.sarif_merge.specs.Internal.Steps.{AreBaselinesJudged, AreBaselinesOpened, AreBaselinesReady, AreIndexesIn, AreLogsJudged, AreLogsOpened, AreLogsReady, AreLogsSound, IsChangeIn, IsFileIn, IsMergeOf, IsReady, IsRead, IsRejection};
     ghost use Rattle.sarif_model.specs.Limits.{most_sources};
 
-    /// A scratch for each source, in which it is indexed.
+    /// Returns a scratch for each source, in which it is indexed.
     #[tactic(auto, using(crate::proofs::StepFacts::lacks_memory))]
     pub(crate) fn make_scratches(&self, alloc: Global) -> Result<Vec<Scratch>, MergeFault>
         ensures scratches { IfOk result (λ scratches. length scratches.items
@@ -143,23 +160,40 @@ impl<'m, 'o: 'm> Merging<'m, 'o> {
         Runs { current, baseline }
     }
 
+    /// Reads the diff, if there is one.
+    pub(crate) fn read_diff(
+        &self,
+        alloc: Global,
+        file: &Suppressions,
+    ) -> Result<Option<GatedChange>, MergeFault>
+        requires { IsFileIn self.now file.now }
+        ensures change { IfOk result (IsChangeIn self.now) }
+        ensures refused { IfErr result (IsRejection self.now) }
+    {
+        let options = self.asked.options;
+        let bytes = slice_of(&self.sources.diff);
+        let change = look_at_change(alloc, options.seed, bytes, &options.checks)?;
+        Ok(change)
+    }
+
     /// Has workers judge the results of the logs.
     pub(crate) fn judge_logs<'t, 'a, G: Gate + Sync, R: Threads + Wait + Sync>(
         &self,
         rt: &R,
         alloc: Global,
         runs: Vec<OpenedRun<'t, 'a>>,
-        file: &Suppressions,
+        files: &FilesRead<'_>,
         observer: &G,
     ) -> Result<Judged<'t, 'a>, MergeFault>
         requires runs { AreLogsReady self.now runs.items }
-        requires file { IsFileIn self.now file.now }
+        requires file { IsFileIn self.now files.now.file.now }
+        requires change { IsChangeIn self.now files.now.change.now }
         ensures judged { IfOk result (AreLogsJudged self.now) }
         ensures sound { OnOk result (AreLogsSound self.now) }
         ensures refused { IfErr result (IsRejection self.now) }
     {
         let team = Team::in_merge(self.asked.options.workers);
-        let judged = judge_runs(rt, alloc, runs, file, team, observer)?;
+        let judged = judge_runs(rt, alloc, runs, files.file, team, observer)?;
         Ok(judged)
     }
 
@@ -169,17 +203,18 @@ impl<'m, 'o: 'm> Merging<'m, 'o> {
         rt: &R,
         alloc: Global,
         runs: Vec<OpenedRun<'t, 'a>>,
-        file: &Suppressions,
+        files: &FilesRead<'_>,
         observer: &G,
     ) -> Result<Judged<'t, 'a>, MergeFault>
         requires runs { AreBaselinesReady self.now runs.items }
-        requires file { IsFileIn self.now file.now }
+        requires file { IsFileIn self.now files.now.file.now }
+        requires change { IsChangeIn self.now files.now.change.now }
         requires logs { AreLogsSound self.now }
         ensures judged { IfOk result (AreBaselinesJudged self.now) }
         ensures refused { IfErr result (IsRejection self.now) }
     {
         let team = Team::in_merge(self.asked.options.workers);
-        let judged = judge_runs(rt, alloc, runs, file, team, observer)?;
+        let judged = judge_runs(rt, alloc, runs, files.file, team, observer)?;
         Ok(judged)
     }
 
@@ -190,17 +225,19 @@ impl<'m, 'o: 'm> Merging<'m, 'o> {
         alloc: Global,
         logs: Judged<'_, '_>,
         baselines: Judged<'_, '_>,
-        file: &Suppressions,
+        files: &FilesRead<'_>,
     ) -> Result<Prepared, MergeFault>
-        requires file { IsFileIn self.now file.now }
+        requires file { IsFileIn self.now files.now.file.now }
+        requires change { IsChangeIn self.now files.now.change.now }
         requires logs { AreLogsJudged self.now logs }
         requires baselines { AreBaselinesJudged self.now baselines }
         ensures prepared { IfOk result (IsReady self.now) }
         ensures refused { IfErr result (IsRejection self.now) }
     {
         let rules = FileRead {
-            file,
+            file: files.file,
             bytes: slice_of(&self.sources.suppressions),
+            change: change_of(files.change),
         };
         let prepared = prepare_by(rt, alloc, logs, baselines, &rules, self.asked)?;
         Ok(prepared)

@@ -58,7 +58,11 @@ fn prepare_nothing<R: Threads + Sync>(
 ) -> Result<Prepared, MergeFault>
     requires { file.now.entries ≡ [] }
 {
-    let rules = FileRead { file, bytes: None };
+    let rules = FileRead {
+        file,
+        bytes: None,
+        change: None,
+    };
     let asked = Asked {
         options,
         reporting: None,

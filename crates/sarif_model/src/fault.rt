@@ -1,8 +1,8 @@
 //! The errors of an input.
 use thiserror::Error;
 
-/// The first thing that is wrong with a log, a run, a result, the suppression file or the choice of hits. A member of
-/// a log may be absent or null where it isn't said that it must be there.
+/// The first thing that is wrong with a log, a run, a result, the suppression file, the diff or the choice of hits. A
+/// member of a log may be absent or null where it isn't said that it must be there.
 #[derive(Clone, Copy, Debug, PartialEq, Eq, Error)]
 pub enum Fault {
     /// The bytes are not UTF-8, not JSON, or nested deeper than `MAX_DEPTH` of `json_parts`.
@@ -89,4 +89,19 @@ pub enum Fault {
     /// A place or a rule of the hits to accept that fits none of the chosen hits.
     #[error("NoHit")]
     NoHit = 22,
+    /// A diff without a section.
+    #[error("NoChange")]
+    NoChange = 23,
+    /// A line of a diff that begins a comparison with several parents.
+    #[error("Combined")]
+    Combined = 24,
+    /// A line of a diff that should be the header of a hunk or one of its lines, and isn't.
+    #[error("BadHunk")]
+    BadHunk = 25,
+    /// A line of a diff with a name that is empty, badly quoted or missing.
+    #[error("BadHeader")]
+    BadHeader = 26,
+    /// A line of a diff with a new commit of a submodule, whose changed files it doesn't name.
+    #[error("Submodule")]
+    Submodule = 27,
 }

@@ -16,6 +16,8 @@ pub enum Source {
     Baseline(u32),
     /// The suppression file.
     Suppress,
+    /// The diff of the change that the gate checks.
+    Diff,
     /// The merged log.
     Output,
     /// The known log, a baseline for later merges.
@@ -35,6 +37,8 @@ pub enum At {
     Single(Source, u32, u32),
     /// An entry of the suppression file, from 0.
     Entry(u32),
+    /// A line of the diff, from 1.
+    Line(usize),
     /// A place of the hits to accept, by its number among these places, from 0.
     Place(usize),
     /// A rule of the hits to accept, by its number among these rules, from 0.
@@ -65,7 +69,7 @@ pub enum Cause {
 }
 
 impl Cause {
-    /// The program's exit status: 3 if a read or a write failed, otherwise 2.
+    /// Returns the program's exit status: 3 if a read or a write failed, otherwise 2.
     pub fn status(self) -> u8
         ensures { result ≡ exit_status self }
     {
@@ -94,7 +98,7 @@ pub struct MergeFault {
 }
 
 impl MergeFault {
-    /// The cause with this place; OutOfMemory and NoWorker have no place.
+    /// Returns the cause with this place; OutOfMemory and NoWorker have no place.
     pub fn with_place(at: At, cause: Cause) -> MergeFault
         ensures { result ≡ fault_at at cause }
     {
@@ -141,6 +145,7 @@ impl fmt::Display for Source {
             Source::Log(number) => write!(f, "log {number}"),
             Source::Baseline(number) => write!(f, "baseline {number}"),
             Source::Suppress => f.write_str("suppressions"),
+            Source::Diff => f.write_str("diff"),
             Source::Output => f.write_str("output"),
             Source::Known => f.write_str("known log"),
         }
@@ -160,6 +165,7 @@ impl fmt::Display for At {
             At::Run(source, run) => write!(f, "{source}, run {run}"),
             At::Single(source, run, number) => write!(f, "{source}, run {run}, result {number}"),
             At::Entry(entry) => write!(f, "suppressions, entry {entry}"),
+            At::Line(number) => write!(f, "diff, line {number}"),
             At::Place(number) => write!(f, "--at {number}"),
             At::Rule(number) => write!(f, "--rule {number}"),
         }

@@ -1,12 +1,15 @@
 //! What a merge requires of runs, and how it matches their results.
 ghost use Rattle.std.specs.Prelude.{◌≡◌, [], false};
+ghost use Rattle.sarif_change.specs.declared.spots.Scope.TheVariants.{Lines};
 ghost use Rattle.sarif_evidence.specs.declared.version.MatchingVersion.TheVariants.{Two};
 
+use sarif_change::Scope;
 use sarif_evidence::MatchingVersion;
 use sarif_model::{Sequence, Text};
 use std::alloc::Global;
 
-/// What a merge requires of runs beyond the form of a log, and what it compares of their results.
+/// What a merge requires of runs beyond the form of a log, what it compares of their results, and how it treats a
+/// change.
 #[derive(Debug, Drop, PartialEq, Eq)]
 pub struct Checks {
     /// Whether an input run whose analysis failed is rejected (SARIF 2.1.0, "executionSuccessful property").
@@ -22,6 +25,10 @@ pub struct Checks {
     /// The names of fingerprints that are ignored: results are taken as if they had none with these names (SARIF
     /// 2.1.0, "fingerprints property", "partialFingerprints property").
     pub ignored: Sequence<Text>,
+    /// What of a changed file is treated as changed, if the gate checks the change of a diff.
+    pub scope: Scope,
+    /// What URIs may begin with, if the gate checks the change of a diff (`--root`).
+    pub roots: Sequence<Text>,
 }
 
 impl Checks {
@@ -34,6 +41,8 @@ impl Checks {
           matching = Two;
           once = false;
           ignored = [];
+          scope = Lines;
+          roots = [];
         } }
     {
         Checks {
@@ -42,6 +51,8 @@ impl Checks {
             matching: MatchingVersion::Two,
             once: false,
             ignored: Sequence::new(alloc),
+            scope: Scope::Lines,
+            roots: Sequence::new(alloc),
         }
     }
 }

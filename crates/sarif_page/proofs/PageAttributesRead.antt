@@ -1,5 +1,5 @@
 -- A reader of the page finds the attributes that are stated for it.
-use Rattle.std.proofs.Common.{◌≡◌, ◌+◌, ◌==◌, ◌++◌, ℕ, Bool, true, false, ◌&&◌, ◌||◌, List, [], ◌∷◌, codes, flat_map, length, map, nat_lt, append-nil, if◌then◌else◌, refl, sym, ap, ◌∙◌}
+use Rattle.std.proofs.Common.{◌≡◌, ◌+◌, ◌==◌, ◌++◌, ℕ, Bool, true, false, ◌&&◌, ◌||◌, List, [], ◌∷◌, Option, Some, None, codes, flat_map, length, map, nat_lt, append-nil, if◌then◌else◌, refl, sym, ap, ◌∙◌}
 use Rattle.sarif_model.specs.declared.kinds.Level.{Level}
 use Rattle.sarif_model.specs.declared.kinds.Level.TheVariants.{NoLevel, Note, Warning, Error}
 use Rattle.sarif_model.specs.declared.kinds.State.{State}
@@ -10,18 +10,22 @@ use Rattle.sarif_options.specs.declared.policy.Policy.{Policy}
 use Rattle.sarif_options.specs.Policy.{are_hits}
 use Rattle.sarif_counts.specs.declared.gate_verdict.Verdict.{Verdict}
 use Rattle.sarif_counts.specs.declared.gate_verdict.Verdict.TheVariants.{Pass, Fail}
-use Rattle.sarif_counts.specs.Hits.{Count, hits_of, verdict_of, verdict_name}
+use Rattle.sarif_counts.specs.Hits.{Count, verdict_name}
 use Rattle.sarif_shown.specs.CountRow.{numbers_of}
 use Rattle.sarif_shown.specs.declared.count_row.CountRow.{CountRow}
+use Rattle.sarif_change.specs.declared.spots.Scope.{Scope}
+use Rattle.sarif_change.specs.declared.spots.Scope.TheVariants.{Lines, Files}
+use Rattle.sarif_scope.specs.Told.{hits_told, outside_told, verdict_told}
+use Rattle.sarif_scope.specs.declared.facts.ChangeFacts.{ChangeFacts}
 use Rattle.sarif_shown.specs.Facts.{Facts}
-use Rattle.sarif_shown.specs.Sentences.{accept_text, entries_text, gate_end, gate_text, hits_text, more_text, runs_text, unshown_text}
+use Rattle.sarif_shown.specs.Sentences.{accept_text, entries_text, gate_end, gate_text, hits_text, more_text, outside_text, runs_text, unshown_text}
 use Rattle.sarif_shown.specs.Unshown.{unshown_number}
 use Rattle.sarif_page.specs.HtmlAttributes.{attributes_in}
 use Rattle.sarif_page.specs.HtmlFixed.{page_begin, title_end, body_begin, counts_begin, counts_end, filters_begin, filters_end, header_end, nothing_reported, page_end}
 use Rattle.sarif_page.specs.HtmlReport.{page_head, heading, reason_line, links_to, links, strong, number_cell, level_cells, count_row, counts_table, mind, minds, levels_in, states_in, box, boxes, filters_by, filters_of, more_line, rest_line, hits_part, others_part, sections, unshown_line, results_of, how, accept_line, top_of, page_of, html_of}
 use Rattle.sarif_page.specs.HtmlRows.{Tables, tables_of, without_row}
 use Rattle.sarif_page.specs.HtmlStyle.{style, style_top, style_groups, style_rows, style_filters, style_narrow, style_print}
-use Rattle.sarif_page.specs.HtmlWords.{listed_states, joint, joined, levels_from, hit_is, reason, hits_heading, others_text}
+use Rattle.sarif_page.specs.HtmlWords.{listed_states, joint, joined, levels_from, in_scope, in_change, hit_is, reason, hits_heading, others_text}
 use Rattle.sarif_page.specs.PageAttributes.{of_class, mind_attributes, top_attributes, links_attributes, number_attributes, count_attributes, counts_attributes, box_attributes, boxes_attributes, filters_attributes, rest_attributes, results_attributes, accept_attributes, page_attributes_by, page_attributes}
 use Rattle.sarif_page.proofs.AttributesRead.{Reads, then_reads, reads_to, outside}
 use Rattle.sarif_page.proofs.ListAttributesRead.{Silent, quiet, none, both, either, number_quiet, counted_quiet, level_named, state_named, after_silent, then_silent, either_reads, attribute, attribute_after, fixed_reads, section_reads}
@@ -60,15 +64,23 @@ from_quiet Note = quiet (codes "level note, warning or error") refl
 from_quiet Warning = quiet (codes "level warning or error") refl
 from_quiet Error = quiet (codes "level error") refl
 
-is_quiet : (states : List State) (least : Level) → Silent (hit_is states least)
-is_quiet [] least = quiet (codes "No state counts, so no result is a hit.") refl
-is_quiet (state ∷ states) least =
-    both (quiet (codes "A hit is a result that is ") refl) (both (joined_quiet (state ∷ states))
-    (both (quiet (codes ", of ") refl) (both (from_quiet least) (quiet (codes ", and not suppressed.") refl))))
+scope_quiet : (scope : Scope) → Silent (in_scope scope)
+scope_quiet Lines = quiet (codes ", on a line of the change") refl
+scope_quiet Files = quiet (codes ", in a file of the change") refl
 
-reason_quiet : (policy : Policy) → Silent (reason policy)
+change_quiet : (change : Option ChangeFacts) → Silent (in_change change)
+change_quiet None = none
+change_quiet (Some facts) = scope_quiet facts.scope
+
+is_quiet : (states : List State) (least : Level) (change : Option ChangeFacts) → Silent (hit_is states least change)
+is_quiet [] least change = quiet (codes "No state counts, so no result is a hit.") refl
+is_quiet (state ∷ states) least change =
+    both (quiet (codes "A hit is a result that is ") refl) (both (joined_quiet (state ∷ states))
+    (both (quiet (codes ", of ") refl) (both (from_quiet least) (both (change_quiet change) (quiet (codes ", and not suppressed.") refl)))))
+
+reason_quiet : (policy : Policy) (change : Option ChangeFacts) → Silent (reason policy change)
 unfolding reason
-reason_quiet policy = is_quiet (listed_states policy.states) policy.fail_on
+reason_quiet policy change = is_quiet (listed_states policy.states) policy.fail_on change
 
 heading_quiet : (verdict : Verdict) (hits max : ℕ) → Silent (hits_heading verdict hits max)
 heading_quiet Fail hits max = counted_quiet hits (quiet (codes " hit stops this change") refl) (quiet (codes " hits stop this change") refl)
@@ -92,6 +104,11 @@ runs_quiet n =
 entries_quiet : (n : ℕ) → Silent (entries_text n)
 entries_quiet n =
     counted_quiet n (quiet (codes " suppression entry matches nothing.") refl) (quiet (codes " suppression entries match nothing.") refl)
+
+outside_quiet : (n : ℕ) → Silent (outside_text n)
+outside_quiet n =
+    counted_quiet n (quiet (codes " result outside the change would be a hit.") refl)
+    (quiet (codes " results outside the change would be hits.") refl)
 
 unshown_quiet : (n : ℕ) → Silent (unshown_text n)
 unshown_quiet n =
@@ -138,14 +155,15 @@ verdict_reads verdict hits max =
     (after_silent (verdict_quiet verdict) (after_silent (quiet (codes "<span>") refl)
     (after_silent (end_quiet hits max) (outside (codes "</span></h1>\n") refl))))
 
-line_quiet : (policy : Policy) → Silent (reason_line policy)
+line_quiet : (policy : Policy) (change : Option ChangeFacts) → Silent (reason_line policy change)
 unfolding reason_line
-line_quiet policy = both (quiet (codes "<p>") refl) (both (reason_quiet policy) (quiet (codes "</p>\n") refl))
+line_quiet policy change = both (quiet (codes "<p>") refl) (both (reason_quiet policy change) (quiet (codes "</p>\n") refl))
 
-top_reads : (verdict : Verdict) (hits : ℕ) (policy : Policy) → Reads (top_of verdict hits policy) (top_attributes verdict)
+top_reads : (verdict : Verdict) (hits : ℕ) (policy : Policy) (change : Option ChangeFacts)
+    → Reads (top_of verdict hits policy change) (top_attributes verdict)
 unfolding top_of
-top_reads verdict hits policy =
-    then_reads (head_reads verdict hits policy.max) (then_silent (verdict_reads verdict hits policy.max) (line_quiet policy))
+top_reads verdict hits policy change =
+    then_reads (head_reads verdict hits policy.max) (then_silent (verdict_reads verdict hits policy.max) (line_quiet policy change))
 
 links_reads : (tables : Tables) → Reads (links tables) (links_attributes tables)
 unfolding links links_to
@@ -223,9 +241,12 @@ how_reads said = then_silent begins (both said (quiet (codes "</p>\n") refl)) wh
 said_if : (n : ℕ) {sentence : List ℕ} → Silent sentence → Reads (if n == 0 then [] else mind sentence) (mind_attributes n)
 said_if n said = either_reads (n == 0) (outside [] refl) (mind_reads said)
 
-minds_reads : (without unused : ℕ) → Reads (minds without unused) (mind_attributes without ++ mind_attributes unused)
+minds_reads : (without unused others : ℕ)
+    → Reads (minds without unused others) (mind_attributes without ++ (mind_attributes unused ++ mind_attributes others))
 unfolding minds
-minds_reads without unused = then_reads (said_if without (runs_quiet without)) (said_if unused (entries_quiet unused))
+minds_reads without unused others =
+    then_reads (said_if without (runs_quiet without))
+    (then_reads (said_if unused (entries_quiet unused)) (said_if others (outside_quiet others)))
 
 unshown_reads : (n : ℕ) → Reads (unshown_line n) (mind_attributes n)
 unfolding unshown_line
@@ -314,15 +335,16 @@ page_reads : (facts : Facts) (verdict : Verdict) (hits : ℕ) (tables : Tables)
     → Reads (page_of facts verdict hits tables) (page_attributes_by facts verdict hits tables)
 unfolding page_of
 page_reads facts verdict hits tables =
-    let unshown = unshown_number facts.show facts.count facts.policy in
-    then_reads (top_reads verdict hits facts.policy) (then_reads (links_reads tables) (then_reads (counts_reads facts.count facts.policy)
-    (then_reads (minds_reads facts.without facts.unused) (after_silent header_end_quiet
+    let unshown = unshown_number facts.change facts.show facts.count facts.policy in
+    then_reads (top_reads verdict hits facts.policy facts.change) (then_reads (links_reads tables) (then_reads (counts_reads facts.count facts.policy)
+    (then_reads (minds_reads facts.without facts.unused (outside_told facts.change)) (after_silent header_end_quiet
     (then_reads (results_reads verdict facts.policy.max tables unshown) (then_silent (accept_reads hits) page_end_quiet))))))
 
 whole_reads : (facts : Facts) → Reads (html_of facts) (page_attributes facts)
 unfolding html_of
 whole_reads facts =
-    page_reads facts (verdict_of facts.count facts.policy) (hits_of facts.count facts.policy) (tables_of facts.link facts.findings)
+    page_reads facts (verdict_told facts.change facts.count facts.policy) (hits_told facts.change facts.count facts.policy)
+    (tables_of facts.link facts.findings)
 
 pub page_attributes_read : (facts : Facts) → attributes_in (html_of facts) ≡ page_attributes facts
 page_attributes_read facts =

@@ -1,5 +1,5 @@
 -- The page: the verdict, the counts, and the first reported results.
-use Rattle.std.specs.Prelude.{ℕ, ◌+◌, Bool, true, false, ◌&&◌, ◌||◌, ◌==◌, List, [], ◌∷◌, ◌++◌, length, codes, flat_map, map, nat_lt, if◌then◌else◌}
+use Rattle.std.specs.Prelude.{ℕ, ◌+◌, Bool, true, false, ◌&&◌, ◌||◌, ◌==◌, List, [], ◌∷◌, ◌++◌, Option, length, codes, flat_map, map, nat_lt, if◌then◌else◌}
 use Rattle.std.specs.List.{list_any}
 use Rattle.std.specs.Fmt.{decimal}
 use Rattle.sarif_model.specs.declared.kinds.Level.{Level}
@@ -12,18 +12,20 @@ use Rattle.sarif_options.specs.declared.policy.Policy.{Policy}
 use Rattle.sarif_counts.specs.declared.gate_verdict.Verdict.{Verdict}
 use Rattle.sarif_counts.specs.Counts.{same_state}
 use Rattle.sarif_options.specs.Policy.{are_hits}
-use Rattle.sarif_counts.specs.Hits.{Count, hits_of, verdict_of, verdict_name}
+use Rattle.sarif_counts.specs.Hits.{Count, verdict_name}
 use Rattle.sarif_counts.specs.Tally.{same_level}
 use Rattle.sarif_shown.specs.CountRow.{numbers_of}
 use Rattle.sarif_shown.specs.declared.count_row.CountRow.{CountRow}
 use Rattle.sarif_findings.specs.declared.finding.Finding.{Finding}
 use Rattle.sarif_shown.specs.Facts.{Facts}
+use Rattle.sarif_scope.specs.Told.{hits_told, outside_told, verdict_told}
+use Rattle.sarif_scope.specs.declared.facts.ChangeFacts.{ChangeFacts}
 use Rattle.sarif_page.specs.HtmlFixed.{page_begin, title_end, body_begin, counts_begin, counts_end, filters_begin, filters_end, header_end, nothing_reported, page_end}
 use Rattle.sarif_page.specs.HtmlGroups.{Part, most_open, section_if}
 use Rattle.sarif_page.specs.HtmlRows.{Tables, groups_of, tables_of, without_row}
 use Rattle.sarif_page.specs.HtmlStyle.{style}
 use Rattle.sarif_page.specs.HtmlWords.{reason, hits_heading, others_text}
-use Rattle.sarif_shown.specs.Sentences.{accept_text, entries_text, gate_end, gate_text, hits_text, more_text, runs_text, unshown_text}
+use Rattle.sarif_shown.specs.Sentences.{accept_text, entries_text, gate_end, gate_text, hits_text, more_text, outside_text, runs_text, unshown_text}
 use Rattle.sarif_shown.specs.Unshown.{unshown_number}
 
 -- ---- the verdict
@@ -37,8 +39,8 @@ heading verdict hits max =
     codes "<h1 class=\"" ++ (verdict_name verdict ++ (codes "\">Gate: " ++ (verdict_name verdict
     ++ (codes "<span>" ++ (gate_end hits max ++ codes "</span></h1>\n")))))
 
-unfoldable pub reason_line : Policy → List ℕ
-reason_line policy = codes "<p>" ++ (reason policy ++ codes "</p>\n")
+unfoldable pub reason_line : Policy → Option ChangeFacts → List ℕ
+reason_line policy change = codes "<p>" ++ (reason policy change ++ codes "</p>\n")
 
 -- links to the two lists, if there are both
 unfoldable pub links_to : ℕ → ℕ → List ℕ
@@ -96,9 +98,13 @@ runs_line without = if without == 0 then [] else mind (runs_text without)
 abbrev pub entries_line : ℕ → List ℕ
 entries_line unused = if unused == 0 then [] else mind (entries_text unused)
 
--- runs without results and unused entries
-unfoldable pub minds : ℕ → ℕ → List ℕ
-minds without unused = runs_line without ++ entries_line unused
+abbrev pub outside_line : ℕ → List ℕ
+outside_line outside = if outside == 0 then [] else mind (outside_text outside)
+
+-- runs without results, unused entries, and results outside of the change
+unfoldable pub minds : ℕ → ℕ → ℕ → List ℕ
+minds without unused outside =
+    runs_line without ++ (entries_line unused ++ outside_line outside)
 
 -- ---- the filters
 
@@ -208,19 +214,21 @@ accept_line hits =
 
 -- ---- the page
 
-unfoldable pub top_of : Verdict → ℕ → Policy → List ℕ
-top_of verdict hits policy =
-    page_head verdict hits policy.max ++ (heading verdict hits policy.max ++ reason_line policy)
+unfoldable pub top_of : Verdict → ℕ → Policy → Option ChangeFacts → List ℕ
+top_of verdict hits policy change =
+    page_head verdict hits policy.max
+    ++ (heading verdict hits policy.max ++ reason_line policy change)
 
 unfoldable pub page_of : Facts → Verdict → ℕ → Tables → List ℕ
 page_of facts verdict hits tables =
-    top_of verdict hits facts.policy
-    ++ (links tables ++ (counts_table facts.count facts.policy ++ (minds facts.without facts.unused
+    top_of verdict hits facts.policy facts.change
+    ++ (links tables ++ (counts_table facts.count facts.policy
+    ++ (minds facts.without facts.unused (outside_told facts.change)
     ++ (header_end ++ (results_of verdict facts.policy.max tables
-    (unshown_number facts.show facts.count facts.policy)
+    (unshown_number facts.change facts.show facts.count facts.policy)
     ++ (accept_line hits ++ page_end))))))
 
 unfoldable pub html_of : Facts → List ℕ
 html_of facts =
-    page_of facts (verdict_of facts.count facts.policy) (hits_of facts.count facts.policy)
-    (tables_of facts.link facts.findings)
+    page_of facts (verdict_told facts.change facts.count facts.policy)
+    (hits_told facts.change facts.count facts.policy) (tables_of facts.link facts.findings)

@@ -1,5 +1,5 @@
 -- The sentences and the headings of a page.
-use Rattle.std.specs.Prelude.{ℕ, List, [], ◌∷◌, ◌++◌, codes, if◌then◌else◌}
+use Rattle.std.specs.Prelude.{ℕ, List, [], ◌∷◌, ◌++◌, Option, Some, None, codes, if◌then◌else◌}
 use Rattle.std.specs.Fmt.{decimal}
 use Rattle.sarif_model.specs.declared.kinds.Level.{Level}
 use Rattle.sarif_model.specs.declared.kinds.Level.TheVariants.{NoLevel, Note, Warning, Error}
@@ -11,6 +11,9 @@ use Rattle.sarif_options.specs.declared.policy.States.{States}
 use Rattle.sarif_counts.specs.declared.gate_verdict.Verdict.{Verdict}
 use Rattle.sarif_counts.specs.declared.gate_verdict.Verdict.TheVariants.{Pass, Fail}
 use Rattle.sarif_options.specs.Policy.{is_listed}
+use Rattle.sarif_change.specs.declared.spots.Scope.{Scope}
+use Rattle.sarif_change.specs.declared.spots.Scope.TheVariants.{Lines, Files}
+use Rattle.sarif_scope.specs.declared.facts.ChangeFacts.{ChangeFacts}
 use Rattle.sarif_shown.specs.Sentences.{counted, hits_text}
 
 -- ---- what a hit is
@@ -42,15 +45,24 @@ levels_from Note = codes "level note, warning or error"
 levels_from Warning = codes "level warning or error"
 levels_from Error = codes "level error"
 
-abbrev pub hit_is : List State → Level → List ℕ
-hit_is [] least = codes "No state counts, so no result is a hit."
-hit_is (state ∷ states) least =
-    codes "A hit is a result that is " ++ (joined (state ∷ states)
-    ++ (codes ", of " ++ (levels_from least ++ codes ", and not suppressed.")))
+abbrev pub in_scope : Scope → List ℕ
+in_scope Lines = codes ", on a line of the change"
+in_scope Files = codes ", in a file of the change"
 
--- what a hit is under this policy
-unfoldable pub reason : Policy → List ℕ
-reason policy = hit_is (listed_states policy.states) policy.fail_on
+-- the places in which the gate looks for hits, if it checks only a change
+abbrev pub in_change : Option ChangeFacts → List ℕ
+in_change None = []
+in_change (Some facts) = in_scope facts.scope
+
+abbrev pub hit_is : List State → Level → Option ChangeFacts → List ℕ
+hit_is [] least change = codes "No state counts, so no result is a hit."
+hit_is (state ∷ states) least change =
+    codes "A hit is a result that is " ++ (joined (state ∷ states)
+    ++ (codes ", of " ++ (levels_from least ++ (in_change change ++ codes ", and not suppressed."))))
+
+-- what a hit is under this policy, and with a change if there is one
+unfoldable pub reason : Policy → Option ChangeFacts → List ℕ
+reason policy change = hit_is (listed_states policy.states) policy.fail_on change
 
 -- ---- the headings of the tables
 

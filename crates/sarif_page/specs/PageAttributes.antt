@@ -9,7 +9,8 @@ use Rattle.sarif_model.specs.State.{state_name}
 use Rattle.sarif_options.specs.declared.policy.Policy.{Policy}
 use Rattle.sarif_options.specs.Policy.{are_hits}
 use Rattle.sarif_counts.specs.declared.gate_verdict.Verdict.{Verdict}
-use Rattle.sarif_counts.specs.Hits.{hits_of, verdict_of, verdict_name}
+use Rattle.sarif_counts.specs.Hits.{verdict_name}
+use Rattle.sarif_scope.specs.Told.{hits_told, outside_told, verdict_told}
 use Rattle.sarif_shown.specs.Facts.{Facts}
 use Rattle.sarif_shown.specs.Unshown.{unshown_number}
 use Rattle.sarif_page.specs.HtmlAttributes.{Attribute, attributes_in}
@@ -96,11 +97,12 @@ accept_attributes hits = if hits == 0 then [] else of_class (codes "how")
 abbrev pub page_attributes_by : Facts → Verdict → ℕ → Tables → List Attribute
 page_attributes_by facts verdict hits tables =
     top_attributes verdict ++ (links_attributes tables ++ (counts_attributes facts.policy
-    ++ ((mind_attributes facts.without ++ mind_attributes facts.unused)
+    ++ ((mind_attributes facts.without ++ (mind_attributes facts.unused
+    ++ mind_attributes (outside_told facts.change)))
     ++ (results_attributes verdict facts.policy.max tables
-    (unshown_number facts.show facts.count facts.policy) ++ accept_attributes hits))))
+    (unshown_number facts.change facts.show facts.count facts.policy) ++ accept_attributes hits))))
 
 abbrev pub page_attributes : Facts → List Attribute
 page_attributes facts =
-    page_attributes_by facts (verdict_of facts.count facts.policy) (hits_of facts.count facts.policy)
-    (tables_of facts.link facts.findings)
+    page_attributes_by facts (verdict_told facts.change facts.count facts.policy)
+    (hits_told facts.change facts.count facts.policy) (tables_of facts.link facts.findings)

@@ -17,12 +17,13 @@ use crate::html_style::push_style;
 use crate::html_tables::{Rows, rows_of};
 use crate::html_words::{hits_heading, others_text, reason};
 use crate::rules::Index;
-use sarif_counts::{Verdict, hits, verdict};
+use sarif_counts::Verdict;
 use sarif_findings::Finding;
 use sarif_options::Policy;
+use sarif_scope::{ChangeFacts, hits_told, outside_told, verdict_told};
 use sarif_shown::{
-    ReportInput, accept_text, entries_text, gate_end, gate_text, hits_text, more_text, runs_text,
-    unshown_number, unshown_text,
+    ReportInput, accept_text, entries_text, gate_end, gate_text, hits_text, more_text,
+    outside_text, runs_text, unshown_number, unshown_text,
 };
 use std::alloc::{AllocError, Global};
 
@@ -57,10 +58,14 @@ fn heading(alloc: Global, verdict: Verdict, hits: u32, max: u32) -> Result<Strin
 }
 
 #[tactic(auto, unfolding(crate::specs::HtmlReport::reason_line))]
-fn reason_line(alloc: Global, policy: &Policy) -> Result<String, AllocError>
-    ensures { IfOk result (λ s. string_bytes s ≡ said.reason_line policy.now) }
+fn reason_line(
+    alloc: Global,
+    policy: &Policy,
+    change: &Option<ChangeFacts>,
+) -> Result<String, AllocError>
+    ensures { IfOk result (λ s. string_bytes s ≡ said.reason_line policy.now change.now) }
 {
-    let reason = reason(alloc, policy)?;
+    let reason = reason(alloc, policy, change)?;
     format!(in alloc; "<p>{reason}</p>\n")
 }
 
@@ -72,13 +77,14 @@ fn push_top(
     verdict: Verdict,
     hits: u32,
     policy: &Policy,
+    change: &Option<ChangeFacts>,
 ) -> Result<(), AllocError>
     ensures { OnOk result (string_bytes text.new
-        ≡ string_bytes text.old ++ said.top_of verdict hits policy.now) }
+        ≡ string_bytes text.old ++ said.top_of verdict hits policy.now change.now) }
 {
     push_head(alloc, text, verdict, hits, policy.max)?;
     let heading = heading(alloc, verdict, hits, policy.max)?;
-    let reason = reason_line(alloc, policy)?;
+    let reason = reason_line(alloc, policy, change)?;
     text.push_str(heading.as_str())?;
     text.push_str(reason.as_str())?;
     Ok(())
@@ -144,14 +150,34 @@ fn push_entries(alloc: Global, text: &mut String, unused: u32) -> Result<(), All
     Ok(())
 }
 
-/// Adds the sentences on runs without results and on unused entries.
-#[tactic(auto, unfolding(crate::specs::HtmlReport::minds))]
-fn push_minds(alloc: Global, text: &mut String, without: u32, unused: u32) -> Result<(), AllocError>
+/// Adds how many results outside of the change would be hits, if there are any.
+fn push_outside(alloc: Global, text: &mut String, outside: u32) -> Result<(), AllocError>
     ensures { OnOk result
-        (string_bytes text.new ≡ string_bytes text.old ++ said.minds without unused) }
+        (string_bytes text.new ≡ string_bytes text.old ++ said.outside_line outside) }
+{
+    if outside != 0 {
+        let sentence = outside_text(alloc, outside)?;
+        let line = mind(alloc, sentence.as_str())?;
+        text.push_str(line.as_str())?;
+    }
+    Ok(())
+}
+
+/// Adds the sentences on runs without results, on unused entries and on results outside of the change.
+#[tactic(auto, unfolding(crate::specs::HtmlReport::minds))]
+fn push_minds(
+    alloc: Global,
+    text: &mut String,
+    without: u32,
+    unused: u32,
+    outside: u32,
+) -> Result<(), AllocError>
+    ensures { OnOk result
+        (string_bytes text.new ≡ string_bytes text.old ++ said.minds without unused outside) }
 {
     push_runs(alloc, text, without)?;
     push_entries(alloc, text, unused)?;
+    push_outside(alloc, text, outside)?;
     Ok(())
 }
 
@@ -352,16 +378,17 @@ pub fn html_report(alloc: Global, told: &ReportInput<'_>) -> Result<String, Allo
     ensures { IfOk result (λ s. string_bytes s ≡ said.html_of (facts_of told.now)) }
 {
     let ReportInput { counts, policy, .. } = *told;
-    let verdict = verdict(counts, policy);
+    let verdict = verdict_told(counts, policy, &told.change);
     let rows = rows_of(alloc, told.seed, told.link, told.findings)?;
     let mut text = String::new(alloc);
-    let hits = hits(counts, policy);
-    push_top(alloc, &mut text, verdict, hits, policy)?;
+    let hits = hits_told(counts, policy, &told.change);
+    push_top(alloc, &mut text, verdict, hits, policy, &told.change)?;
     push_links(alloc, &mut text, &rows)?;
     push_counts(alloc, &mut text, counts, policy)?;
-    push_minds(alloc, &mut text, told.without, told.unused)?;
+    let outside = outside_told(&told.change);
+    push_minds(alloc, &mut text, told.without, told.unused, outside)?;
     text.push_str(header_end())?;
-    let unshown = unshown_number(told.show, counts, policy);
+    let unshown = unshown_number(told.show, counts, policy, &told.change);
     push_results(alloc, &mut text, verdict, policy.max, &rows, unshown)?;
     push_accept(alloc, &mut text, hits)?;
     text.push_str(page_end())?;

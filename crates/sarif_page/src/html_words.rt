@@ -2,9 +2,11 @@
 ghost use Rattle.std.specs.Prelude.{◌≡◌, ◌++◌, IfOk, OnOk, string_bytes};
 ghost use Rattle.sarif_page.specs.HtmlWords as said;
 
+use sarif_change::Scope;
 use sarif_counts::Verdict;
 use sarif_model::{Level, State};
 use sarif_options::{Policy, States};
+use sarif_scope::ChangeFacts;
 use sarif_shown::{count_text, hits_text};
 use std::alloc::{AllocError, Global};
 
@@ -65,10 +67,33 @@ fn levels_from(least: Level) -> &'static str
     }
 }
 
-/// What a hit is under this policy.
+fn in_scope(scope: Scope) -> &'static str
+    ensures { result.now ≡ said.in_scope scope }
+{
+    match scope {
+        Scope::Lines => ", on a line of the change",
+        Scope::Files => ", in a file of the change",
+    }
+}
+
+/// Returns the phrase for the places in which the gate looks for hits, if it checks only a change.
+fn in_change(change: &Option<ChangeFacts>) -> &'static str
+    ensures { result.now ≡ said.in_change change.now }
+{
+    match change {
+        None => "",
+        Some(facts) => in_scope(facts.scope),
+    }
+}
+
+/// Returns the sentence that says what a hit is under this policy, and with a change if there is one.
 #[tactic(auto, unfolding(crate::specs::HtmlWords::reason))]
-pub(crate) fn reason(alloc: Global, policy: &Policy) -> Result<String, AllocError>
-    ensures { IfOk result (λ s. string_bytes s ≡ said.reason policy.now) }
+pub(crate) fn reason(
+    alloc: Global,
+    policy: &Policy,
+    change: &Option<ChangeFacts>,
+) -> Result<String, AllocError>
+    ensures { IfOk result (λ s. string_bytes s ≡ said.reason policy.now change.now) }
 {
     let listed = listed_states(alloc, policy.states)?;
     if listed.is_empty() {
@@ -76,10 +101,13 @@ pub(crate) fn reason(alloc: Global, policy: &Policy) -> Result<String, AllocErro
     }
     let states = join_states(alloc, &listed)?;
     let levels = levels_from(policy.fail_on);
-    format!(in alloc; "A hit is a result that is {states}, of {levels}, and not suppressed.")
+    let within = in_change(change);
+    format!(in alloc;
+        "A hit is a result that is {states}, of {levels}{within}, and not suppressed."
+    )
 }
 
-/// The heading of the hits, which says whether they stop the change.
+/// Returns the heading of the hits, which says whether they stop the change.
 pub(crate) fn hits_heading(
     alloc: Global,
     verdict: Verdict,
@@ -102,7 +130,7 @@ pub(crate) fn hits_heading(
     }
 }
 
-/// A number of results that are not hits.
+/// Returns the text on a number of results that are not hits.
 pub(crate) fn others_text(alloc: Global, others: usize) -> Result<String, AllocError>
     ensures { IfOk result (λ s. string_bytes s ≡ said.others_text others) }
 {

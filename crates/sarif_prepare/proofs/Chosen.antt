@@ -16,32 +16,33 @@ use Rattle.sarif_choice.specs.declared.choice.Choosing.{Choosing}
 use Rattle.sarif_prepare.specs.Once.{IsPreparedOnce}
 use Rattle.sarif_log.specs.LogBy.{limited_records, runs_without_results}
 use Rattle.sarif_runs.specs.Judging.{run_values}
+use Rattle.sarif_scope.specs.declared.gated.GatedChange.{GatedChange}
 use Rattle.sarif_suppress.specs.Suppressing.{unused_of}
 
 -- by whether each result is counted
-abbrev IsPreparedIf : Bool → MatchingVersion → File → List Placed → List Placed → Option Reporting → Prepared → Type 0
-IsPreparedIf once version file now before asked prepared =
-    IsPreparedAs (written_if once version file now before) (runs_counted_if once version file now before) (copies_if once version now before)
+abbrev IsPreparedIf : Bool → MatchingVersion → File → List Placed → List Placed → Option GatedChange → Policy → Option Reporting → Prepared → Type 0
+IsPreparedIf once version file now before change policy asked prepared =
+    IsPreparedAs (written_if once version file now before) (runs_counted_if once version file now before) (copies_if once version now before) change policy
     (runs_without_results (run_values now)) (unused_of file (limited_records file (counted_if once now))) asked prepared
 
-pub counted_all : (checks : Checks) (file : File) (now before : List Placed) (asked : Option Reporting) → checks.once ≡ false → (prepared : Prepared)
-    → IsPrepared checks.matching file now before asked prepared → IsPreparedBy checks file now before asked prepared
-counted_all checks file now before asked all prepared h =
-    subst (λ once. IsPreparedIf once checks.matching file now before asked prepared) (sym all) (prepared_all checks.matching file now before asked prepared h)
+pub counted_all : (checks : Checks) (file : File) (now before : List Placed) (change : Option GatedChange) (policy : Policy) (asked : Option Reporting) → checks.once ≡ false → (prepared : Prepared)
+    → IsPrepared checks.matching file now before change policy asked prepared → IsPreparedBy checks file now before change policy asked prepared
+counted_all checks file now before change policy asked all prepared h =
+    subst (λ once. IsPreparedIf once checks.matching file now before change policy asked prepared) (sym all) (prepared_all checks.matching file now before change policy asked prepared h)
 
-pub counted_once : (checks : Checks) (file : File) (now before : List Placed) (asked : Option Reporting) → checks.once ≡ true → (prepared : Prepared)
-    → IsPreparedOnce checks.matching file now before asked prepared → IsPreparedBy checks file now before asked prepared
-counted_once checks file now before asked one prepared h =
-    subst (λ once. IsPreparedIf once checks.matching file now before asked prepared) (sym one) h
+pub counted_once : (checks : Checks) (file : File) (now before : List Placed) (change : Option GatedChange) (policy : Policy) (asked : Option Reporting) → checks.once ≡ true → (prepared : Prepared)
+    → IsPreparedOnce checks.matching file now before change policy asked prepared → IsPreparedBy checks file now before change policy asked prepared
+counted_once checks file now before change policy asked one prepared h =
+    subst (λ once. IsPreparedIf once checks.matching file now before change policy asked prepared) (sym one) h
 
-pub merge_all : (checks : Checks) (file : File) (bytes : Option (List ℕ)) (policy : Policy) (choice : Option Choosing) (now before : List Placed)
-    → checks.once ≡ false → chosen_merge checks file bytes policy choice now before ≡ merge_by checks file bytes policy choice now before
-merge_all checks file bytes policy choice now before all =
-    sym (ap (λ once. chosen_merge checks file bytes policy choice (counted_if once now) (counted_if once before)) all)
+pub merge_all : (checks : Checks) (file : File) (bytes : Option (List ℕ)) (change : Option GatedChange) (policy : Policy) (choice : Option Choosing) (now before : List Placed)
+    → checks.once ≡ false → chosen_merge checks file bytes change policy choice now before ≡ merge_by checks file bytes change policy choice now before
+merge_all checks file bytes change policy choice now before all =
+    sym (ap (λ once. chosen_merge checks file bytes change policy choice (counted_if once now) (counted_if once before)) all)
 
-pub merge_once : (checks : Checks) (file : File) (bytes : Option (List ℕ)) (policy : Policy) (choice : Option Choosing) (now before : List Placed)
+pub merge_once : (checks : Checks) (file : File) (bytes : Option (List ℕ)) (change : Option GatedChange) (policy : Policy) (choice : Option Choosing) (now before : List Placed)
     → checks.once ≡ true
-    → chosen_merge checks file bytes policy choice (without_copies now) (without_copies before)
-    ≡ merge_by checks file bytes policy choice now before
-merge_once checks file bytes policy choice now before one =
-    sym (ap (λ once. chosen_merge checks file bytes policy choice (counted_if once now) (counted_if once before)) one)
+    → chosen_merge checks file bytes change policy choice (without_copies now) (without_copies before)
+    ≡ merge_by checks file bytes change policy choice now before
+merge_once checks file bytes change policy choice now before one =
+    sym (ap (λ once. chosen_merge checks file bytes change policy choice (counted_if once now) (counted_if once before)) one)

@@ -33,6 +33,11 @@ use Rattle.sarif_prepare.specs.Chosen.{checked_merge, chosen_merge, hits_alone, 
 use Rattle.sarif_prepare.specs.Kept.{standings_from, standings_of, IsUnkept}
 use Rattle.sarif_choice.specs.declared.choice.Choosing.{Choosing}
 use Rattle.sarif_prepare.proofs.MarkedSides.{marks_long}
+use Rattle.sarif_prepare.proofs.NarrowedSides.{hidden_is, hidden_long}
+use Rattle.sarif_prepare.specs.Hidden.{hidden_by}
+use Rattle.sarif_prepare.specs.Internal.Outside.{AreNarrowed}
+use Rattle.sarif_prepare.specs.declared.outside.Narrowed.{Narrowed}
+use Rattle.sarif_scope.specs.declared.gated.GatedChange.{GatedChange}
 use Rattle.sarif_accept.specs.Choosing.{Marks}
 use Rattle.sarif_model.specs.declared.merge_fault.At.{At}
 use Rattle.sarif_log.specs.LogBy.{current_runs, limited_records, listing_of, runs_by, states_of, taken_of}
@@ -64,19 +69,20 @@ counts_are [] = refl
 counts_are (p ∷ ps) = ap (λ l. length (present (results_of p.run)) ∷ l) (counts_are ps)
 
 -- the value that is passed on is that of the merge
-matched_is : (checks : Checks) (file : File) (bytes : Option (List ℕ)) (policy : Policy) (marks : Marks) (misfit : Option At)
+matched_is : (checks : Checks) (file : File) (bytes : Option (List ℕ)) (change : Option GatedChange) (policy : Policy) (marks : Marks) (misfit : Option At)
     (now before : List Placed) (c : Half) (b : Baselines) (p : Paired) (matched : Matched)
     → AreTogether file now before c b → IsPaired checks.matching c b p → IsFileOf bytes file
     → matched.file.now ≡ file → option_map (λ x. x.now) matched.bytes ≡ bytes → matched.policy ≡ policy
     → matched.matching ≡ checks.matching → matched.once ≡ checks.once → matched.regions ≡ knows_regions checks.matching checks.once
+    → option_map (λ x. x.now) matched.hidden ≡ hidden_by change file now
     → option_map (λ x. x.now) matched.chosen ≡ marks → IfSome marks (λ ms. length ms ≡ length (limited_records file now)) → misfit ≡ None
     → matched.current.runs.now ≡ c.runs.items → matched.current.records.now ≡ c.records.items → matched.current.drafts.now ≡ c.drafts.items
     → matched.current.states.now ≡ states_of checks.matching (map unadmitted c.records.items) b.records.items
     → matched.current.standings.now ≡ p.standings.items
     → matched.before.runs.now ≡ b.runs.items → matched.before.counts.now ≡ b.counts.items → matched.before.records.now ≡ b.records.items
     → matched.before.taken.now ≡ p.taken.items
-    → IsMatched (with_choice (checked_merge checks file bytes policy now before) marks misfit) matched
-matched_is checks file bytes policy marks misfit now before c b p matched h q read file_is bytes_are policy_is matching_is once_is regions_is marks_are marks_many fits runs_are records_are drafts_are states_are standings_are old_runs_are
+    → IsMatched (with_choice (checked_merge checks file bytes change policy now before) marks misfit) matched
+matched_is checks file bytes change policy marks misfit now before c b p matched h q read file_is bytes_are policy_is matching_is once_is regions_is hidden_are marks_are marks_many fits runs_are records_are drafts_are states_are standings_are old_runs_are
     counts_is known_are taken_is =
     let rs = records_of now in
     let bs = records_of before in
@@ -88,6 +94,8 @@ matched_is checks file bytes policy marks misfit now before c b p matched h q re
       matching = matching_is;
       once = once_is;
       regions = regions_is;
+      hidden = hidden_are;
+      hidden_long = hidden_long checks.matching file now before c b p h q change;
       chosen = marks_are;
       chosen_long = marks_many;
       fits = fits;
@@ -117,26 +125,29 @@ matched_is checks file bytes policy marks misfit now before c b p matched h q re
     }
 
 -- the value is that of the merge with the choice of hits, if there is one
-pub matched_chosen : (checks : Checks) (file : File) (bytes : Option (List ℕ)) (policy : Policy) (choice : Option Choosing) (now before : List Placed)
-    (c : Half) (b : Baselines) (p : Paired) (matched : Matched)
-    → AreTogether file now before c b → IsPaired checks.matching c b p → IsFileOf bytes file
+pub matched_chosen : (checks : Checks) (file : File) (bytes : Option (List ℕ)) (change : Option GatedChange) (policy : Policy) (choice : Option Choosing)
+    (now before : List Placed) (c : Half) (b : Baselines) (p : Paired) (narrowed : Option Narrowed) (matched : Matched)
+    → AreTogether file now before c b → IsPaired checks.matching c b p → AreNarrowed change policy c p narrowed → IsFileOf bytes file
     → matched.file.now ≡ file → option_map (λ x. x.now) matched.bytes ≡ bytes → matched.policy ≡ policy
     → matched.matching ≡ checks.matching → matched.once ≡ checks.once → matched.regions ≡ knows_regions checks.matching checks.once
-    → option_map (λ x. x.now) matched.chosen ≡ (chosen_merge checks file bytes policy choice now before).chosen
-    → (chosen_merge checks file bytes policy choice now before).misfit ≡ None
+    → option_map (λ x. x.now) matched.hidden ≡ option_map (λ n. n.marks.items) narrowed
+    → option_map (λ x. x.now) matched.chosen ≡ (chosen_merge checks file bytes change policy choice now before).chosen
+    → (chosen_merge checks file bytes change policy choice now before).misfit ≡ None
     → matched.current.runs.now ≡ c.runs.items → matched.current.records.now ≡ c.records.items → matched.current.drafts.now ≡ c.drafts.items
     → matched.current.states.now ≡ states_of checks.matching (map unadmitted c.records.items) b.records.items
     → matched.current.standings.now ≡ p.standings.items
     → matched.before.runs.now ≡ b.runs.items → matched.before.counts.now ≡ b.counts.items → matched.before.records.now ≡ b.records.items
     → matched.before.taken.now ≡ p.taken.items
-    → IsMatched (chosen_merge checks file bytes policy choice now before) matched
-matched_chosen checks file bytes policy None now before c b p matched h q read file_is bytes_are policy_is matching_is once_is regions_is marks_are fits =
-    matched_is checks file bytes policy None None now before c b p matched h q read file_is bytes_are policy_is matching_is once_is regions_is marks_are tt fits
-matched_chosen checks file bytes policy (Some choosing) now before c b p matched h q read file_is bytes_are policy_is matching_is once_is regions_is marks_are fits =
+    → IsMatched (chosen_merge checks file bytes change policy choice now before) matched
+matched_chosen checks file bytes change policy None now before c b p narrowed matched h q k read file_is bytes_are policy_is matching_is once_is regions_is hidden_are marks_are fits =
+    matched_is checks file bytes change policy None None now before c b p matched h q read file_is bytes_are policy_is matching_is once_is regions_is
+    (hidden_are ∙ hidden_is checks.matching file now before c b p h q change policy narrowed k) marks_are tt fits
+matched_chosen checks file bytes change policy (Some choosing) now before c b p narrowed matched h q k read file_is bytes_are policy_is matching_is once_is regions_is hidden_are marks_are fits =
     let hits = hits_alone policy choosing.roots in
-    matched_is checks file bytes policy (Some (marks_in hits choosing.choice (current_runs checks.matching file now before)))
-    (misfit_in hits choosing.choice (runs_by checks.matching file now before)) now before c b p matched h q read file_is bytes_are policy_is matching_is once_is regions_is marks_are
-    (marks_long checks.matching hits choosing.choice file now before c b p h q ∙ sym (limited_long file (records_of now))) fits
+    matched_is checks file bytes change policy (Some (marks_in change hits choosing.choice (current_runs checks.matching file now before)))
+    (misfit_in change hits choosing.choice (runs_by checks.matching file now before)) now before c b p matched h q read file_is bytes_are policy_is matching_is once_is regions_is
+    (hidden_are ∙ hidden_is checks.matching file now before c b p h q change policy narrowed k) marks_are
+    (marks_long checks.matching hits choosing.choice file now before c b p h q change policy narrowed k ∙ sym (limited_long file (records_of now))) fits
 
 -- a choice with a place or a rule that fits no chosen hit
 pub misfit_unkept : (m : Merge) (upkeep : Upkeep) (fault : MergeFault)

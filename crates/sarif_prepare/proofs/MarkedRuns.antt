@@ -119,7 +119,7 @@ module _ (reporting : Reporting) (choice : Choice) where
   marked_written : (later run : Data) (listed : Listing) (applied : Record → Applied) (rs : List Record) (states : List State) (ds : List Data)
       → AreAlike later run → length rs ≡ length ds → length states ≡ length ds → AllByRecursion IsObject ds
       → marked_each reporting choice (with_run run ds) (drafts_by listed applied rs ds) (map Some states)
-      ≡ map (is_marked reporting choice later) (written_all listed rs states ds)
+      ≡ map (is_marked None reporting choice later) (written_all listed rs states ds)
   marked_written later run listed applied [] states [] same same_r same_s objects = refl
   marked_written later run listed applied [] states (d ∷ ds) same same_r same_s objects = absurd (omega (arith, same_r))
   marked_written later run listed applied (r ∷ rs) states [] same same_r same_s objects = absurd (omega (arith, same_r))
@@ -128,27 +128,27 @@ module _ (reporting : Reporting) (choice : Choice) where
       ap (λ o. option_map_or (is_chosen choice) o false
       ∷ marked_each reporting choice (with_run run ds) (drafts_by listed applied rs ds) (map Some states))
       (draft_told reporting later run listed applied r state d same objects.0)
-      ∙ ap (λ l. is_marked reporting choice later (written listed r state d) ∷ l)
+      ∙ ap (λ l. is_marked None reporting choice later (written listed r state d) ∷ l)
       (marked_written later run listed applied rs states ds same (omega (arith, same_r)) (omega (arith, same_s)) objects.1)
 
   found_marked : (listed : Listing) (applied : Record → Applied) (rs : List Record) (ss : List State) (ms : Members) (found : Option Items)
       → length rs ≡ length (elements_or_none found) → length ss ≡ length (elements_or_none found) → AllByRecursion IsObject (elements_or_none found)
       → marked_each reporting choice (with_run (object ms) (elements_or_none found)) (drafts_by listed applied rs (elements_or_none found)) (map Some ss)
-      ≡ map (is_marked reporting choice (object (with_results (annotated_items listed rs ss found) (bare ms))))
+      ≡ map (is_marked None reporting choice (object (with_results (annotated_items listed rs ss found) (bare ms))))
       (elements_in (codes "results") (object (with_results (annotated_items listed rs ss found) (bare ms))))
   found_marked listed applied rs ss ms None same_r same_s objects =
-      sym (ap (λ o. map (is_marked reporting choice (object (bare ms))) (elements_or_none (option_and_then as_array o))) (no_results ms))
+      sym (ap (λ o. map (is_marked None reporting choice (object (bare ms))) (elements_or_none (option_and_then as_array o))) (no_results ms))
   found_marked listed applied rs ss ms (Some ds) same_r same_s objects =
       let xs = written_all listed rs ss (elements ds) in
       let run = object (with_results (Some (items_of xs)) (bare ms)) in
       marked_written run (object ms) listed applied rs ss (elements ds) (alike (Some (items_of xs)) ms) same_r same_s objects
-      ∙ ap (map (is_marked reporting choice run))
+      ∙ ap (map (is_marked None reporting choice run))
       (sym (ap (λ o. elements_or_none (option_and_then as_array o)) (get_member-put (codes "results") (array (items_of xs)) (bare ms)) ∙ items_back xs))
 
   run_marked : (listed : Listing) (applied : Record → Applied) (rs : List Record) (ss : List State) (run : Data)
       → IsRun run → length rs ≡ length (results_of run) → length ss ≡ length (results_of run)
       → marked_each reporting choice (own_results run) (drafts_by listed applied rs (results_of run)) (map Some ss)
-      ≡ map (is_marked reporting choice (merged_run listed rs ss run)) (elements_in (codes "results") (merged_run listed rs ss run))
+      ≡ map (is_marked None reporting choice (merged_run listed rs ss run)) (elements_in (codes "results") (merged_run listed rs ss run))
   run_marked listed applied rs ss null is same_r same_s = absurd is.0
   run_marked listed applied rs ss (boolean b) is same_r same_s = absurd is.0
   run_marked listed applied rs ss (number n) is same_r same_s = absurd is.0
@@ -192,7 +192,7 @@ module _ (reporting : Reporting) (choice : Choice) where
   pub runs_marked : (listed : Listing) (applied : Record → Applied) (rs : List Record) (ss : List State) (runs : List Data)
       → AllByRecursion IsRun runs → length rs ≡ results_total runs → length ss ≡ length rs
       → marked_each reporting choice (flat_map own_results runs) (drafts_by listed applied rs (flat_map results_of runs)) (map Some ss)
-      ≡ marks_in reporting choice (merged_runs listed rs ss runs)
+      ≡ marks_in None reporting choice (merged_runs listed rs ss runs)
   runs_marked listed applied rs ss [] are same_r same_s = refl
   runs_marked listed applied rs ss (run ∷ runs) are same_r same_s =
       let xs = results_of run in
@@ -202,7 +202,7 @@ module _ (reporting : Reporting) (choice : Choice) where
       let here = own_results run in
       let later = flat_map own_results runs in
       let one = merged_run listed (take n rs) (take n ss) run in
-      let own = map (is_marked reporting choice one) (elements_in (codes "results") one) in
+      let own = map (is_marked None reporting choice one) (elements_in (codes "results") one) in
       let long_r : length (take n rs) ≡ n = length-take-le n rs (omega (arith, same_r)) in
       let long_s : length (take n ss) ≡ n = length-take-le n ss (omega (arith, same_r, same_s)) in
       let rest_r : length (drop n rs) ≡ results_total runs = omega (arith, length-drop n rs, same_r) in

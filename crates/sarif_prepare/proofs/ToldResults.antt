@@ -28,7 +28,7 @@ use Rattle.sarif_prepare.specs.Internal.Telling.{told_as, told_each, with_run}
 -- ---- one result
 
 -- members that annotating doesn't touch
-kept : (name : List ℕ) (level : Level) (state : State) (list : Items) (ms : Members)
+pub kept : (name : List ℕ) (level : Level) (state : State) (list : Items) (ms : Members)
     → (name ≡ codes "baselineState" → ⊥) → (name ≡ codes "level" → ⊥) → (name ≡ codes "suppressions" → ⊥)
     → get_member name (annotated_members level state list ms) ≡ get_member name ms
 kept name level state list ms no_state no_level no_list =

@@ -16,7 +16,11 @@ use Rattle.sarif_log.specs.Internal.Written.{AreWrittenWith}
 use Rattle.sarif_log.specs.LogBy.{current_runs, leftover_runs, limited_records, listing_of, runs_without_results, states_of, taken_of}
 use Rattle.sarif_log.specs.MergedRuns.{absent_runs, merged_runs}
 use Rattle.sarif_log.specs.declared.merged_text.Side.{Side}
-use Rattle.sarif_log.specs.Told.{told_of}
+use Rattle.std.specs.Prelude.{option_map}
+use Rattle.sarif_log.specs.Told.{told_by}
+use Rattle.sarif_options.specs.declared.policy.Policy.{Policy}
+use Rattle.sarif_scope.specs.Gate.{facts_of}
+use Rattle.sarif_scope.specs.declared.gated.GatedChange.{GatedChange}
 use Rattle.sarif_log.specs.declared.prepared.CopyFlags.{CopyFlags}
 use Rattle.sarif_log.specs.declared.prepared.Prepared.{Prepared}
 use Rattle.sarif_log.proofs.RunCounts.{left_count as left_counted, runs_count}
@@ -295,13 +299,14 @@ module _ (v : MatchingVersion) (file : File) (now before : List Placed) (c : Hal
       ap₂ (λ a z. Some (a ++ z)) (ap (places_from 0) first) (ap₂ places_from runs rest)
 
   -- everything that is written, put together
-  pub woven_prepared : (logs : CurrentWoven) (other : LeftWoven) (made : Prepared) (asked : Option Reporting)
+  pub woven_prepared : (logs : CurrentWoven) (other : LeftWoven) (made : Prepared) (change : Option GatedChange) (policy : Policy) (asked : Option Reporting)
       → AreCurrentWoven file (states_of v (records_of (without_copies now)) (records_of (without_copies before))) now logs.copies.items logs.side.side
       → AreLeftWoven (taken_of v (records_of (without_copies now)) (records_of (without_copies before))) before other.copies.items other.left.side
       → made.current ≡ logs.side.side → made.baseline ≡ other.left.side → made.copies ≡ Some (flags_of logs.copies other.copies)
       → made.without ≡ runs_without_results (run_values now) → made.unused ≡ unused_of file (limited_records file (without_copies now))
-      → made.findings.items ≡ told_of asked (runs_counted v file now before) → IsPreparedOnce v file now before asked made
-  woven_prepared logs other made asked here there current baseline copies without unused told =
+      → made.change ≡ option_map (λ g. facts_of g policy (runs_counted v file now before)) change
+      → made.findings.items ≡ told_by change asked (runs_counted v file now before) → IsPreparedOnce v file now before change policy asked made
+  woven_prepared logs other made change policy asked here there current baseline copies without unused facts told =
       let flags = flags_of logs.copies other.copies in
       let side = logs.side.side in
       let left = other.left.side in
@@ -316,5 +321,6 @@ module _ (v : MatchingVersion) (file : File) (now before : List Placed) (c : Hal
             ∙ woven_places flags side left here there;
         without = without;
         unused = unused;
+        change = facts;
         told = told;
       }

@@ -3,8 +3,7 @@ use Rattle.std.specs.Prelude.{ℕ, Bool, true, false, List, ◌++◌, Option, So
 use Rattle.serde_json.specs.Data.{Data}
 use Rattle.sarif_entries.specs.File.{File}
 use Rattle.sarif_findings.specs.declared.reporting.Reporting.{Reporting}
-use Rattle.sarif_counts.specs.CountOf.{count_of}
-use Rattle.sarif_counts.specs.Gate.{gate_of}
+use Rattle.sarif_scope.specs.Gate.{gate_by}
 use Rattle.sarif_log.specs.Copies.{naming}
 use Rattle.sarif_log.specs.Internal.Prepared.{IsPreparedAs}
 use Rattle.sarif_log.specs.Log.{log_with}
@@ -20,6 +19,7 @@ use Rattle.sarif_choice.specs.declared.choice.Choosing.{Choosing}
 use Rattle.sarif_prepare.specs.Once.{copies_written, current_once, leftover_once}
 use Rattle.sarif_runs.specs.Judging.{run_values}
 use Rattle.sarif_runs.specs.Placed.{Placed}
+use Rattle.sarif_scope.specs.declared.gated.GatedChange.{GatedChange}
 use Rattle.sarif_suppress.specs.Suppressing.{unused_of}
 use Rattle.sarif_upkeep.specs.Merge.{Merge}
 
@@ -55,26 +55,27 @@ runs_counted_if once version file current baseline =
 
 -- everything that is written for the merge of these input runs, these baseline runs and this suppression file, and its
 -- findings, as these checks say how results are matched and counted
-abbrev pub IsPreparedBy : Checks → File → List Placed → List Placed → Option Reporting → Prepared → Type 0
-IsPreparedBy checks file current baseline asked prepared =
+abbrev pub IsPreparedBy : Checks → File → List Placed → List Placed → Option GatedChange → Policy
+    → Option Reporting → Prepared → Type 0
+IsPreparedBy checks file current baseline change policy asked prepared =
     IsPreparedAs (written_if checks.once checks.matching file current baseline)
     (runs_counted_if checks.once checks.matching file current baseline)
-    (copies_if checks.once checks.matching current baseline)
+    (copies_if checks.once checks.matching current baseline) change policy
     (runs_without_results (run_values current))
     (unused_of file (limited_records file (counted_if checks.once current))) asked prepared
 
 -- the log of these input runs, baseline runs and suppression file, as these checks say how results are matched and counted
-abbrev pub logged_by : Checks → File → List Placed → List Placed → Policy → Data
-logged_by checks file current baseline policy =
+abbrev pub logged_by : Checks → File → List Placed → List Placed → Option GatedChange → Policy → Data
+logged_by checks file current baseline change policy =
     log_with (naming (copies_if checks.once checks.matching current baseline)
-    (gate_of (count_of (runs_counted_if checks.once checks.matching file current baseline)) policy
+    (gate_by change (runs_counted_if checks.once checks.matching file current baseline) policy
     (runs_without_results (run_values current))
     (unused_of file (limited_records file (counted_if checks.once current)))))
     (written_if checks.once checks.matching file current baseline)
 
 -- the merge of the results that are counted, for later merges
-abbrev pub merge_by : Checks → File → Option (List ℕ) → Policy → Option Choosing
-    → List Placed → List Placed → Merge
-merge_by checks file bytes policy choice current baseline =
-    chosen_merge checks file bytes policy choice
+abbrev pub merge_by : Checks → File → Option (List ℕ) → Option GatedChange → Policy
+    → Option Choosing → List Placed → List Placed → Merge
+merge_by checks file bytes change policy choice current baseline =
+    chosen_merge checks file bytes change policy choice
     (counted_if checks.once current) (counted_if checks.once baseline)

@@ -8,6 +8,7 @@ pub mod Leftover
 pub mod Limiting
 pub mod Marked
 pub mod Marking
+pub mod Outside
 pub mod Telling
 pub mod Together
 pub mod Woven

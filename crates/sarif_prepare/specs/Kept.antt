@@ -19,7 +19,9 @@ use Rattle.sarif_known.specs.declared.standing.Standing.{Standing}
 use Rattle.sarif_upkeep.specs.Life.{life_faults, life_of}
 use Rattle.sarif_upkeep.specs.Merge.{Merge}
 use Rattle.sarif_upkeep.specs.ReadBack.{IsReadAgain}
+use Rattle.sarif_prepare.specs.Hidden.{hidden_by}
 use Rattle.sarif_prepare.specs.declared.file_read.FileRead.{FileRead}
+use Rattle.sarif_scope.specs.declared.gated.GatedChange.{GatedChange}
 use Rattle.sarif_log.specs.LogBy.{limited_records, partner_in, states_of, taken_of}
 
 -- what matching by a version says about each of these current results; the first has number n
@@ -35,9 +37,10 @@ abbrev pub standings_of : MatchingVersion → List Record → List Record → Li
 standings_of version cs bs = standings_from version bs (partners_in version cs bs) 0 cs
 
 -- the merge of these input runs and baseline runs, matched as these checks say, with this suppression file, read from
--- these bytes, under this policy, if each result is counted
-abbrev pub merge_of : Checks → File → Option (List ℕ) → Policy → List Placed → List Placed → Merge
-merge_of checks file bytes policy current baseline = record {
+-- these bytes, under this policy, if each result is counted; its gate checks only the change, if there is one
+abbrev pub merge_of : Checks → File → Option (List ℕ) → Option GatedChange → Policy
+    → List Placed → List Placed → Merge
+merge_of checks file bytes change policy current baseline = record {
   file = file;
   bytes = bytes;
   policy = policy;
@@ -48,6 +51,7 @@ merge_of checks file bytes policy current baseline = record {
   records = limited_records file current;
   states = states_of checks.matching (records_of current) (records_of baseline);
   standings = standings_of checks.matching (records_of current) (records_of baseline);
+  hidden = hidden_by change file current;
   chosen = None;
   misfit = None;
   before = run_values baseline;
@@ -57,6 +61,10 @@ merge_of checks file bytes policy current baseline = record {
 
 abbrev pub bytes_of : FileRead → Option (List ℕ)
 bytes_of rules = option_map (λ bytes. bytes.now) rules.bytes
+
+-- the change that the gate checks, if there is one
+abbrev pub change_in : FileRead → Option GatedChange
+change_in rules = option_map (λ change. change.now) rules.change
 
 -- what is for later merges has no errors, and is the defined one; each file of it is read as it is defined
 pub record IsKept (m : Merge) (upkeep : Option Upkeep) (life : Life) : Type 0 where

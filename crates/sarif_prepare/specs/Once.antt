@@ -18,7 +18,9 @@ use Rattle.sarif_model.specs.declared.record.Record.{Record}
 use Rattle.sarif_once.specs.Once.{without_copies}
 use Rattle.sarif_read.specs.Unmarked.{unmarked}
 use Rattle.sarif_runs.specs.Judging.{records_of, run_values}
+use Rattle.sarif_options.specs.declared.policy.Policy.{Policy}
 use Rattle.sarif_runs.specs.Placed.{Placed}
+use Rattle.sarif_scope.specs.declared.gated.GatedChange.{GatedChange}
 use Rattle.sarif_suppress.specs.Limited.{all_admitted, with_admitted}
 use Rattle.sarif_suppress.specs.Suppressing.{unused_of}
 
@@ -108,11 +110,11 @@ copies_written version current baseline =
 
 -- everything that is written for the merge of these input runs, these baseline runs and this suppression file, matched
 -- by this version without their copies, and its findings; only findings are counted, reported and applied
-abbrev pub IsPreparedOnce : MatchingVersion → File → List Placed → List Placed → Option Reporting
-    → Prepared → Type 0
-IsPreparedOnce version file current baseline asked prepared =
+abbrev pub IsPreparedOnce : MatchingVersion → File → List Placed → List Placed → Option GatedChange
+    → Policy → Option Reporting → Prepared → Type 0
+IsPreparedOnce version file current baseline change policy asked prepared =
     IsPreparedAs (runs_once version file current baseline)
     (runs_counted version file current baseline)
-    (Some (copies_written version current baseline))
+    (Some (copies_written version current baseline)) change policy
     (runs_without_results (run_values current))
     (unused_of file (limited_records file (without_copies current))) asked prepared

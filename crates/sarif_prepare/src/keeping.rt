@@ -4,14 +4,15 @@ ghost use Rattle.sarif_model.specs.declared.kinds.State.TheVariants.{New};
 ghost use Rattle.sarif_runs.specs.Placed.{Placed};
 ghost use Rattle.sarif_known.specs.Chosen.{knows_regions};
 ghost use Rattle.sarif_upkeep.specs.Internal.IsMatched.{IsFileOf};
-ghost use Rattle.sarif_prepare.specs.Internal.Keeping.{AreOfRuns, KeepsIfOk, RejectsIfErr};
-ghost use Rattle.sarif_prepare.specs.Kept.{bytes_of};
+ghost use Rattle.sarif_prepare.specs.Internal.Keeping.{AreLookedAt, AreOfRuns, KeepsIfOk, RejectsIfErr};
+ghost use Rattle.sarif_prepare.specs.Kept.{bytes_of, change_in};
 ghost use Rattle.sarif_prepare.specs.Asked.{upkeep_in};
 ghost use Rattle.sarif_prepare.specs.Internal.Together.{IsPaired};
 
 use crate::asked::Asked;
 use crate::file_read::FileRead;
 use crate::marking::mark_if_chosen;
+use crate::outside::Narrowed;
 use crate::pairing::Sides;
 use sarif_counts::Life;
 use sarif_evidence::MatchingVersion;
@@ -21,7 +22,7 @@ use sarif_upkeep::{Before, Current, Matched, life_of};
 use std::alloc::{AllocError, Global};
 use std::thread::Threads;
 
-/// The state of each current result; each has one.
+/// Returns the state of each current result; each has one.
 pub(crate) fn list_there(alloc: Global, states: &[Option<State>]) -> Result<Vec<State>, AllocError>
     ensures { IfOk result (λ there. there.items ≡ map (λ state. unwrap_or state New) states.now) }
 {
@@ -39,6 +40,17 @@ fn lent(marks: &Option<Vec<bool>>) -> Option<&[bool]>
     match marks {
         None => None,
         Some(marks) => Some(marks.as_slice()),
+    }
+}
+
+/// Returns the marks of the results that are outside, if there is a change.
+fn hidden_in<'m>(narrowed: Option<&'m Narrowed>) -> Option<&'m [bool]>
+    ensures { option_map (λ lent. lent.now) result
+        ≡ option_map (λ n. n.marks.items) (option_map (λ n. n.now) narrowed.entry) }
+{
+    match narrowed {
+        None => None,
+        Some(narrowed) => Some(narrowed.marks.as_slice()),
     }
 }
 
@@ -66,6 +78,7 @@ fn keep<R: Threads + Sync>(
         × AreOfRuns rules.now sides.now current_runs baseline_runs }
     requires paired { IsPaired asked.now.options.now.checks.matching
         sides.now.current.now sides.now.baselines.now sides.now.paired.now }
+    requires narrowed { AreLookedAt (change_in rules.now) asked.now sides.now }
     ensures kept { KeepsIfOk rules.now asked.now sides.now (Some upkeep.now) result }
     ensures unkept { RejectsIfErr rules.now asked.now sides.now (Some upkeep.now) result }
 {
@@ -78,6 +91,7 @@ fn keep<R: Threads + Sync>(
         matching: asked.options.checks.matching,
         once: asked.options.checks.once,
         regions: knows_regions(&asked.options.checks),
+        hidden: hidden_in(sides.narrowed),
         chosen: lent(&marks),
         current: Current {
             runs: &sides.current.runs,
@@ -97,7 +111,7 @@ fn keep<R: Threads + Sync>(
     Ok(life)
 }
 
-/// What a merge gives for later merges: what is requested, and nothing else.
+/// Returns what a merge gives for later merges: what is requested, and nothing else.
 pub(crate) fn keep_if_asked<R: Threads + Sync>(
     rt: &R,
     alloc: Global,
@@ -110,6 +124,7 @@ pub(crate) fn keep_if_asked<R: Threads + Sync>(
         × AreOfRuns rules.now sides.now current_runs baseline_runs }
     requires paired { IsPaired asked.now.options.now.checks.matching
         sides.now.current.now sides.now.baselines.now sides.now.paired.now }
+    requires narrowed { AreLookedAt (change_in rules.now) asked.now sides.now }
     ensures kept { KeepsIfOk rules.now asked.now sides.now (upkeep_in asked.now) result }
     ensures unkept { RejectsIfErr rules.now asked.now sides.now (upkeep_in asked.now) result }
 {

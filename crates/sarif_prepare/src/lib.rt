@@ -17,6 +17,7 @@ mod limiting;
 mod marking;
 mod matched;
 mod once;
+mod outside;
 mod pairing;
 mod parts_of_runs;
 mod preparing;

@@ -1,21 +1,24 @@
 //! Which current results are chosen hits.
-ghost use Rattle.std.specs.Prelude.{◌≡◌, ◌≤◌, ◌+◌, ◌⊎◌, ◌++◌, ◌∷◌, [], List, Some, None, false, flat_map, get_or, if◌then◌else◌, length, map, option_map, IfOk, IfErr};
+ghost use Rattle.std.specs.Prelude.{◌≡◌, ◌≤◌, ◌+◌, ◌⊎◌, ◌++◌, ◌∷◌, [], List, Option, Some, None, false, get_or, if◌then◌else◌, length, map, option_map, IfOk, IfErr};
 ghost use Rattle.sarif_choice.specs.Choice as said;
 ghost use Rattle.sarif_entries.specs.File.{File};
-ghost use Rattle.sarif_findings.specs.Reported.{reported_in};
 ghost use Rattle.sarif_log.specs.LogBy.{runs_by};
+ghost use Rattle.sarif_log.specs.Told.{told_by};
 ghost use Rattle.sarif_model.specs.MergeFault.{out_of_memory};
 ghost use Rattle.sarif_model.specs.declared.merge_fault.At.{At as AnyPlace};
 ghost use Rattle.sarif_prepare.specs.Chosen as chosen;
-ghost use Rattle.sarif_prepare.specs.Internal.Keeping.{merge_by, AreOfRuns};
+ghost use Rattle.sarif_prepare.specs.Internal.Keeping.{merge_by, AreLookedAt, AreOfRuns};
 ghost use Rattle.sarif_prepare.specs.Internal.Marking as marked;
+ghost use Rattle.sarif_prepare.specs.Internal.Outside.{AreNarrowed};
 ghost use Rattle.sarif_prepare.specs.Internal.Together.{AreTogether, IsPaired};
+ghost use Rattle.sarif_prepare.specs.Kept.{change_in};
 ghost use Rattle.sarif_runs.specs.Placed.{Placed};
+ghost use Rattle.sarif_scope.specs.declared.gated.GatedChange.{GatedChange};
 ghost use Rattle.sarif_upkeep.specs.Life.{no_hit};
 
 use crate::asked::Asked;
 use crate::file_read::FileRead;
-use crate::pairing::Sides;
+use crate::pairing::{Sides, states_shown};
 use crate::preparing::tell_results;
 use sarif_choice::{Choosing, Unfit, choose};
 use sarif_findings::{Finding, Reporting, Show};
@@ -47,7 +50,7 @@ fn hits_alone(alloc: Global, policy: Policy, roots: &[Text]) -> Result<Reporting
     })
 }
 
-/// The findings of all results that are shown, current and absent.
+/// Returns the findings of all results that are shown, current and absent; with a change, of those inside.
 fn tell_hits<'o, R: Threads + Sync>(
     rt: &R,
     alloc: Global,
@@ -61,10 +64,16 @@ fn tell_hits<'o, R: Threads + Sync>(
         sides.now.current.now sides.now.baselines.now }
     requires paired { IsPaired options.now.checks.matching
         sides.now.current.now sides.now.baselines.now sides.now.paired.now }
+    requires narrowed { (change : Option GatedChange) × AreNarrowed change options.now.policy
+        sides.now.current.now sides.now.paired.now
+        (option_map (λ n. n.now) sides.now.narrowed) }
     ensures { IfOk result (λ hits. (file : File) (current_runs baseline_runs : List Placed)
         → AreTogether file current_runs baseline_runs
         sides.now.current.now sides.now.baselines.now
-        → hits.items ≡ flat_map (reported_in reporting.now)
+        → (change : Option GatedChange) → AreNarrowed change options.now.policy
+        sides.now.current.now sides.now.paired.now
+        (option_map (λ n. n.now) sides.now.narrowed)
+        → hits.items ≡ told_by change (Some reporting.now)
         (runs_by options.now.checks.matching file current_runs baseline_runs)) }
 {
     let alone = Asked {
@@ -187,33 +196,37 @@ fn mark<R: Threads + Sync>(
         sides.now.current.now sides.now.baselines.now }
     requires paired { IsPaired asked.now.options.now.checks.matching
         sides.now.current.now sides.now.baselines.now sides.now.paired.now }
+    requires narrowed { (change : Option GatedChange) × AreLookedAt change asked.now sides.now }
     ensures ok { (file : File) (current_runs baseline_runs : List Placed)
         → AreTogether file current_runs baseline_runs
         sides.now.current.now sides.now.baselines.now
+        → (change : Option GatedChange) → AreLookedAt change asked.now sides.now
         → IfOk result (λ marks. option_map (λ v. v.items) marks
-        ≡ (marked.merge_with file asked.now choosing.now current_runs baseline_runs).chosen) }
+        ≡ (marked.merge_with file change asked.now choosing.now current_runs baseline_runs).chosen) }
     ensures fits { (file : File) (current_runs baseline_runs : List Placed)
         → AreTogether file current_runs baseline_runs
         sides.now.current.now sides.now.baselines.now
-        → IfOk result (λ _. (marked.merge_with file asked.now choosing.now
+        → (change : Option GatedChange) → AreLookedAt change asked.now sides.now
+        → IfOk result (λ _. (marked.merge_with file change asked.now choosing.now
         current_runs baseline_runs).misfit ≡ None) }
     ensures err { (file : File) (current_runs baseline_runs : List Placed)
         → AreTogether file current_runs baseline_runs
         sides.now.current.now sides.now.baselines.now
+        → (change : Option GatedChange) → AreLookedAt change asked.now sides.now
         → IfErr result (λ fault. (fault ≡ out_of_memory)
-        ⊎ ((at : AnyPlace) × (fault ≡ no_hit at) × ((marked.merge_with file asked.now
+        ⊎ ((at : AnyPlace) × (fault ≡ no_hit at) × ((marked.merge_with file change asked.now
         choosing.now current_runs baseline_runs).misfit ≡ Some at))) }
 {
     let reporting = hits_alone(alloc, asked.options.policy, choosing.roots.as_slice())?;
     let hits = tell_hits(rt, alloc, sides, asked.options, &reporting)?;
     let marks = choose_hits(alloc, asked, choosing, &hits)?;
     let drafts = &sides.current.drafts;
-    let states = &sides.paired.states;
+    let states = states_shown(sides);
     let spread = spread_told(alloc, &reporting, drafts, states, &marks)?;
     Ok(Some(spread))
 }
 
-/// Which current results are chosen hits, if not all hits are.
+/// Returns which current results are chosen hits, if not all hits are.
 pub(crate) fn mark_if_chosen<R: Threads + Sync>(
     rt: &R,
     alloc: Global,
@@ -225,6 +238,7 @@ pub(crate) fn mark_if_chosen<R: Threads + Sync>(
         × AreOfRuns rules.now sides.now current_runs baseline_runs }
     requires paired { IsPaired asked.now.options.now.checks.matching
         sides.now.current.now sides.now.baselines.now sides.now.paired.now }
+    requires narrowed { AreLookedAt (change_in rules.now) asked.now sides.now }
     ensures ok { (current_runs baseline_runs : List Placed)
         → AreOfRuns rules.now sides.now current_runs baseline_runs
         → IfOk result (λ marks. option_map (λ v. v.items) marks

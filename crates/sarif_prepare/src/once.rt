@@ -6,7 +6,7 @@ ghost use Rattle.sarif_once.specs.Once.{without_copies};
 ghost use Rattle.sarif_prepare.specs.Asked.{choice_in, reporting_in, upkeep_in};
 ghost use Rattle.sarif_prepare.specs.Chosen.{chosen_merge};
 ghost use Rattle.sarif_prepare.specs.Internal.Woven.{flags_of, AreApart, AreWoven};
-ghost use Rattle.sarif_prepare.specs.Kept.{bytes_of, IsKept, IsUnkept};
+ghost use Rattle.sarif_prepare.specs.Kept.{bytes_of, change_in, IsKept, IsUnkept};
 ghost use Rattle.sarif_prepare.specs.Once.{IsPreparedOnce};
 ghost use Rattle.sarif_results.specs.Internal.Judged.{placed_in, IsJudged};
 ghost use Rattle.sarif_runs.specs.Placed.{Placed};
@@ -20,6 +20,7 @@ use crate::copies::{
 };
 use crate::file_read::FileRead;
 use crate::halves::{Half, current_half};
+use crate::outside::{facts_of, narrow_if};
 use crate::pairing::{Paired, PairedSides, pair_sides};
 use crate::preparing::{CurrentSide, ToldSides, tell_sides};
 use crate::woven::{CurrentWoven, LeftWoven, weave_baselines, weave_logs};
@@ -28,6 +29,7 @@ use sarif_findings::Finding;
 use sarif_log::{CopyFlags, Prepared, Spent};
 use sarif_model::MergeFault;
 use sarif_results::Judged;
+use sarif_scope::ChangeFacts;
 use std::alloc::{AllocError, Global};
 use std::thread::Threads;
 
@@ -75,13 +77,16 @@ fn split_sides<'t, 'a, R: Threads + Sync>(
     })
 }
 
-/// What is written of both sides, with what is reported and what is for later merges.
-fn put_together(
-    logs: CurrentWoven,
-    baselines: LeftWoven,
+/// What is reported, what the gate says about a change, and what is for later merges.
+#[derive(Drop)]
+struct Reported {
     findings: Vec<Finding>,
+    change: Option<ChangeFacts>,
     life: Life,
-) -> Prepared
+}
+
+/// Returns what is written of both sides, with what is reported and what is for later merges.
+fn put_together(logs: CurrentWoven, baselines: LeftWoven, reported: Reported) -> Prepared
     requires { AreWoven logs baselines }
     ensures current { result.current ≡ logs.side.side }
     ensures baseline { result.baseline ≡ baselines.left.side }
@@ -89,9 +94,15 @@ fn put_together(
     ensures without { result.without ≡ logs.side.without }
     ensures unused { result.unused ≡ logs.side.unused }
     ensures expired { result.expired ≡ logs.side.expired }
-    ensures findings { result.findings ≡ findings }
-    ensures life { result.life ≡ life }
+    ensures findings { result.findings ≡ reported.findings }
+    ensures change { result.change ≡ reported.change }
+    ensures life { result.life ≡ reported.life }
 {
+    let Reported {
+        findings,
+        change,
+        life,
+    } = reported;
     let CurrentWoven { side, copies } = logs;
     let LeftWoven {
         left,
@@ -111,6 +122,7 @@ fn put_together(
         unused,
         expired,
         findings,
+        change,
         life,
         copies: Some(CopyFlags {
             current: copies,
@@ -137,18 +149,20 @@ fn prepare_split<R: Threads + Sync>(
     ensures prepared { IfOk result (λ prepared. (now before : List Placed)
         → AreApart rules.now.file.now now before split.entry
         → IsPreparedOnce asked.now.options.now.checks.matching rules.now.file.now now before
-        (reporting_in asked.now) prepared) }
+        (change_in rules.now) asked.now.options.now.policy (reporting_in asked.now) prepared) }
     ensures expired { IfOk result
         (λ prepared. (rs : List Record) → prepared.expired ≡ expired_of rules.now.file.now rs) }
     ensures kept { (now before : List Placed)
         → AreApart rules.now.file.now now before split.entry
         → IfOk result (λ prepared. IsKept (chosen_merge asked.now.options.now.checks
-        rules.now.file.now (bytes_of rules.now) asked.now.options.now.policy (choice_in asked.now)
+        rules.now.file.now (bytes_of rules.now) (change_in rules.now)
+        asked.now.options.now.policy (choice_in asked.now)
         (without_copies now) (without_copies before)) (upkeep_in asked.now) prepared.life) }
     ensures unkept { (now before : List Placed)
         → AreApart rules.now.file.now now before split.entry
         → IfErr result (IsUnkept (chosen_merge asked.now.options.now.checks
-        rules.now.file.now (bytes_of rules.now) asked.now.options.now.policy (choice_in asked.now)
+        rules.now.file.now (bytes_of rules.now) (change_in rules.now)
+        asked.now.options.now.policy (choice_in asked.now)
         (without_copies now) (without_copies before)) (upkeep_in asked.now)) }
 {
     let SplitSides {
@@ -159,7 +173,18 @@ fn prepare_split<R: Threads + Sync>(
         baseline_copies,
     } = split;
     let sides = pair_sides(rt, alloc, current, changes, baselines, asked.options)?;
-    let ToldSides { findings, life } = tell_sides(rt, alloc, &sides.lend(), rules, asked)?;
+    let paired = &sides.paired;
+    let narrowed = narrow_if(
+        rt,
+        alloc,
+        rules.change,
+        &sides.current,
+        paired,
+        asked.options,
+    )?;
+    let change = facts_of(rules.change, &narrowed);
+    let lent = sides.lend(&narrowed);
+    let ToldSides { findings, life } = tell_sides(rt, alloc, &lent, rules, asked)?;
     let PairedSides {
         current,
         baselines,
@@ -173,7 +198,15 @@ fn prepare_split<R: Threads + Sync>(
     } = paired;
     let there = weave_baselines(alloc, baselines, baseline_copies, &taken, left)?;
     let here = weave_logs(alloc, current, current_copies, &states, rules.file)?;
-    Ok(put_together(here, there, findings, life))
+    Ok(put_together(
+        here,
+        there,
+        Reported {
+            findings,
+            change,
+            life,
+        },
+    ))
 }
 
 /// Returns what [`prepare`](crate::prepare) returns, if copies aren't counted. A copy is a result of logs, or of
@@ -192,17 +225,19 @@ pub fn prepare_once<R: Threads + Sync>(
     requires current { IsJudged rules.now.file.now false current }
     requires baseline { IsJudged rules.now.file.now true baseline }
     ensures prepared { IfOk result (IsPreparedOnce asked.now.options.now.checks.matching
-        rules.now.file.now (placed_in current.entry)
-        (placed_in baseline.entry) (reporting_in asked.now)) }
+        rules.now.file.now (placed_in current.entry) (placed_in baseline.entry)
+        (change_in rules.now) asked.now.options.now.policy (reporting_in asked.now)) }
     ensures expired { IfOk result
         (λ prepared. (rs : List Record) → prepared.expired ≡ expired_of rules.now.file.now rs) }
     ensures kept { IfOk result
         (λ prepared. IsKept (chosen_merge asked.now.options.now.checks
-        rules.now.file.now (bytes_of rules.now) asked.now.options.now.policy (choice_in asked.now)
+        rules.now.file.now (bytes_of rules.now) (change_in rules.now)
+        asked.now.options.now.policy (choice_in asked.now)
         (without_copies (placed_in current.entry)) (without_copies (placed_in baseline.entry)))
         (upkeep_in asked.now) prepared.life) }
     ensures unkept { IfErr result (IsUnkept (chosen_merge asked.now.options.now.checks
-        rules.now.file.now (bytes_of rules.now) asked.now.options.now.policy (choice_in asked.now)
+        rules.now.file.now (bytes_of rules.now) (change_in rules.now)
+        asked.now.options.now.policy (choice_in asked.now)
         (without_copies (placed_in current.entry)) (without_copies (placed_in baseline.entry)))
         (upkeep_in asked.now)) }
 {

@@ -1,11 +1,12 @@
 //! Matching the results of logs with those of baselines.
-ghost use Rattle.std.specs.Prelude.{◌≡◌, ◌≤◌, List, IfOk, length};
+ghost use Rattle.std.specs.Prelude.{◌≡◌, ◌≤◌, List, IfOk, length, option_map};
 ghost use Rattle.std.specs.List.{flat_map};
 ghost use Rattle.sarif_entries.specs.File.{File};
 ghost use Rattle.sarif_model.specs.Limits.{most_results};
 ghost use Rattle.sarif_model.specs.Run.{results_of};
 ghost use Rattle.sarif_prepare.specs.Internal.Baselines.{AreBaselines};
 ghost use Rattle.sarif_prepare.specs.Internal.Limiting.{AreChanges};
+ghost use Rattle.sarif_prepare.specs.Internal.Outside.{states_by};
 ghost use Rattle.sarif_prepare.specs.Internal.Together.{AreFound, ArePaired, AreTogether, IsPaired};
 ghost use Rattle.sarif_runs.specs.Judging.{records_of, run_values};
 ghost use Rattle.sarif_runs.specs.Placed.{Placed};
@@ -16,6 +17,7 @@ use crate::changes::Changes;
 use crate::halves::{Half, change_half};
 use crate::left::left_drafts;
 use crate::matched::{MatchedStates, match_records};
+use crate::outside::Narrowed;
 use sarif_known::Standing;
 use sarif_model::{Record, State};
 use sarif_options::Options;
@@ -78,11 +80,25 @@ pub(crate) struct Sides<'s, 't: 's, 'a: 't> {
     pub(crate) current: &'s Half<'t, 'a>,
     pub(crate) baselines: &'s Baselines<'t, 'a>,
     pub(crate) paired: &'s Paired,
+    /// What the change makes of the results of logs, if there is one.
+    pub(crate) narrowed: Option<&'s Narrowed>,
+}
+
+/// Returns the states of the results of logs that are shown.
+pub(crate) fn states_shown<'s>(sides: &Sides<'s, '_, '_>) -> &'s [Option<State>]
+    ensures { result.now
+        ≡ states_by (option_map (λ n. n.now) sides.now.narrowed) sides.now.paired.now }
+{
+    match sides.narrowed {
+        Some(narrowed) => &narrowed.states,
+        None => &sides.paired.states,
+    }
 }
 
 impl<'t, 'a> PairedSides<'t, 'a> {
-    /// The sides, lent.
-    pub(crate) fn lend<'s>(&'s self) -> Sides<'s, 't, 'a>
+    /// Returns the sides, lent, with what the change makes of the results of logs.
+    pub(crate) fn lend<'s>(&'s self, narrowed: &'s Option<Narrowed>) -> Sides<'s, 't, 'a>
+        ensures narrowed { option_map (λ n. n.now) result.narrowed ≡ narrowed.now }
         ensures current { result.current.now ≡ self.now.current }
         ensures baselines { result.baselines.now ≡ self.now.baselines }
         ensures paired { result.paired.now ≡ self.now.paired }
@@ -91,6 +107,7 @@ impl<'t, 'a> PairedSides<'t, 'a> {
             current: &self.current,
             baselines: &self.baselines,
             paired: &self.paired,
+            narrowed: narrowed.as_ref(),
         }
     }
 }

@@ -1,5 +1,5 @@
 //! What is made of the results of logs and of baselines once they are matched.
-ghost use Rattle.std.specs.Prelude.{◌≡◌, ◌≤◌, false, true, not, is_some, count_by, length, map, List, IfOk, IfErr};
+ghost use Rattle.std.specs.Prelude.{◌≡◌, ◌≤◌, false, true, not, is_some, count_by, length, map, Option, List, IfOk, IfErr};
 ghost use Rattle.std.specs.List.{AllByRecursion};
 ghost use Rattle.serde_json.specs.Data.{Data};
 ghost use Rattle.sarif_model.specs.declared.record.Record.{Record};
@@ -15,11 +15,12 @@ ghost use Rattle.sarif_log.specs.Internal.Prepared.{IsPrepared};
 ghost use Rattle.sarif_results.specs.Internal.Judged.{placed_in, IsJudged};
 ghost use Rattle.sarif_upkeep.specs.Internal.IsMatched.{IsFileOf};
 ghost use Rattle.sarif_prepare.specs.Chosen.{chosen_merge};
-ghost use Rattle.sarif_prepare.specs.Kept.{bytes_of, IsKept, IsUnkept};
+ghost use Rattle.sarif_prepare.specs.Kept.{bytes_of, change_in, IsKept, IsUnkept};
+ghost use Rattle.sarif_scope.specs.declared.gated.GatedChange.{GatedChange};
 ghost use Rattle.sarif_prepare.specs.Asked.{choice_in, reporting_in, upkeep_in};
-ghost use Rattle.sarif_prepare.specs.Internal.Keeping.{AreOfRuns};
+ghost use Rattle.sarif_prepare.specs.Internal.Keeping.{AreLookedAt, AreOfRuns};
 ghost use Rattle.sarif_prepare.specs.Internal.Together.{AreTogether, IsPaired};
-ghost use Rattle.sarif_log.specs.Told.{told_of};
+ghost use Rattle.sarif_log.specs.Told.{told_by, told_of};
 ghost use Rattle.sarif_model.specs.Limits.{most_runs};
 
 use crate::asked::Asked;
@@ -29,6 +30,7 @@ use crate::halves::{Half, current_half};
 use crate::keeping::keep_if_asked;
 use crate::left::left_side;
 use crate::limiting::changes_of_all;
+use crate::outside::{facts_of, narrow_if};
 use crate::pairing::{Paired, PairedSides, Sides, pair_sides};
 use crate::parts_of_runs::current_parts;
 use crate::run_parts::count_without;
@@ -57,8 +59,8 @@ pub(crate) struct CurrentSide {
     pub(crate) records: Vec<Record>,
 }
 
-/// The findings of the written results, if they are requested.
-pub(crate) fn tell_results<R: Threads + Sync>(
+/// Returns the findings of the written results of both sides, if they are requested.
+fn tell_both<R: Threads + Sync>(
     rt: &R,
     alloc: Global,
     asked: &Asked<'_>,
@@ -83,6 +85,34 @@ pub(crate) fn tell_results<R: Threads + Sync>(
     let mut absent = tell_left(rt, alloc, asked, sides.baselines, &paired.taken, left)?;
     findings.append(&mut absent)?;
     Ok(findings)
+}
+
+/// Returns the findings of the written results, if they are requested; with a change, of those inside.
+pub(crate) fn tell_results<R: Threads + Sync>(
+    rt: &R,
+    alloc: Global,
+    asked: &Asked<'_>,
+    sides: &Sides<'_, '_, '_>,
+) -> Result<Vec<Finding>, AllocError>
+    requires together { (file : File)
+        × (current_runs : List Placed) × (baseline_runs : List Placed)
+        × AreTogether file current_runs baseline_runs
+        sides.now.current.now sides.now.baselines.now }
+    requires paired { IsPaired asked.now.options.now.checks.matching
+        sides.now.current.now sides.now.baselines.now sides.now.paired.now }
+    requires narrowed { (change : Option GatedChange) × AreLookedAt change asked.now sides.now }
+    ensures { IfOk result (λ findings. (file : File) (current_runs baseline_runs : List Placed)
+        → AreTogether file current_runs baseline_runs
+        sides.now.current.now sides.now.baselines.now
+        → (change : Option GatedChange) → AreLookedAt change asked.now sides.now
+        → findings.items
+        ≡ told_by change (reporting_in asked.now)
+        (runs_by asked.now.options.now.checks.matching file current_runs baseline_runs)) }
+{
+    match sides.narrowed {
+        Some(narrowed) => tell_current(rt, alloc, asked, sides.current, &narrowed.states),
+        None => tell_both(rt, alloc, asked, sides),
+    }
 }
 
 /// Returns what is written for the runs of logs, whose results have these states.
@@ -138,7 +168,7 @@ pub(crate) struct ToldSides {
     pub(crate) life: Life,
 }
 
-/// What is reported about matched results, and what is for later merges.
+/// Returns what is reported about matched results, and what is for later merges.
 pub(crate) fn tell_sides<R: Threads + Sync>(
     rt: &R,
     alloc: Global,
@@ -151,22 +181,23 @@ pub(crate) fn tell_sides<R: Threads + Sync>(
         × AreOfRuns rules.now sides.now current_runs baseline_runs }
     requires paired { IsPaired asked.now.options.now.checks.matching
         sides.now.current.now sides.now.baselines.now sides.now.paired.now }
+    requires narrowed { AreLookedAt (change_in rules.now) asked.now sides.now }
     ensures findings { IfOk result (λ told. (file : File) (current_runs baseline_runs : List Placed)
         → AreTogether file current_runs baseline_runs
         sides.now.current.now sides.now.baselines.now
         → told.findings.items
-        ≡ told_of (reporting_in asked.now)
+        ≡ told_by (change_in rules.now) (reporting_in asked.now)
         (runs_by asked.now.options.now.checks.matching file current_runs baseline_runs)) }
     ensures kept { (current_runs baseline_runs : List Placed)
         → AreOfRuns rules.now sides.now current_runs baseline_runs
         → IfOk result (λ told. IsKept (chosen_merge asked.now.options.now.checks
-        rules.now.file.now (bytes_of rules.now)
+        rules.now.file.now (bytes_of rules.now) (change_in rules.now)
         asked.now.options.now.policy (choice_in asked.now) current_runs baseline_runs)
         (upkeep_in asked.now) told.life) }
     ensures unkept { (current_runs baseline_runs : List Placed)
         → AreOfRuns rules.now sides.now current_runs baseline_runs
         → IfErr result (IsUnkept (chosen_merge asked.now.options.now.checks
-        rules.now.file.now (bytes_of rules.now)
+        rules.now.file.now (bytes_of rules.now) (change_in rules.now)
         asked.now.options.now.policy (choice_in asked.now) current_runs baseline_runs)
         (upkeep_in asked.now)) }
 {
@@ -192,12 +223,13 @@ fn prepare_sides<R: Threads + Sync>(
         → AreTogether rules.now.file.now current_runs baseline_runs
         sides.entry.current sides.entry.baselines
         → IsPrepared asked.now.options.now.checks.matching rules.now.file.now
-        current_runs baseline_runs (reporting_in asked.now) prepared) }
+        current_runs baseline_runs (change_in rules.now) asked.now.options.now.policy
+        (reporting_in asked.now) prepared) }
     ensures kept { (current_runs baseline_runs : List Placed)
         → AreTogether rules.now.file.now current_runs baseline_runs
         sides.entry.current sides.entry.baselines
         → IfOk result (λ prepared. IsKept (chosen_merge asked.now.options.now.checks
-        rules.now.file.now (bytes_of rules.now)
+        rules.now.file.now (bytes_of rules.now) (change_in rules.now)
         asked.now.options.now.policy (choice_in asked.now) current_runs baseline_runs)
         (upkeep_in asked.now)
         prepared.life) }
@@ -205,11 +237,22 @@ fn prepare_sides<R: Threads + Sync>(
         → AreTogether rules.now.file.now current_runs baseline_runs
         sides.entry.current sides.entry.baselines
         → IfErr result (IsUnkept (chosen_merge asked.now.options.now.checks
-        rules.now.file.now (bytes_of rules.now)
+        rules.now.file.now (bytes_of rules.now) (change_in rules.now)
         asked.now.options.now.policy (choice_in asked.now) current_runs baseline_runs)
         (upkeep_in asked.now)) }
 {
-    let ToldSides { findings, life } = tell_sides(rt, alloc, &sides.lend(), rules, asked)?;
+    let paired = &sides.paired;
+    let narrowed = narrow_if(
+        rt,
+        alloc,
+        rules.change,
+        &sides.current,
+        paired,
+        asked.options,
+    )?;
+    let change = facts_of(rules.change, &narrowed);
+    let lent = sides.lend(&narrowed);
+    let ToldSides { findings, life } = tell_sides(rt, alloc, &lent, rules, asked)?;
     let PairedSides {
         current,
         baselines,
@@ -240,6 +283,7 @@ fn prepare_sides<R: Threads + Sync>(
         unused,
         expired,
         findings,
+        change,
         life,
         copies: None,
         spent,
@@ -248,12 +292,12 @@ fn prepare_sides<R: Threads + Sync>(
 
 /// Returns everything that is written for runs of logs and baselines without errors: each current result with its
 /// level, its baseline state and its suppressions, and the unmatched baseline results as absent (SARIF 2.1.0,
-/// "baselineState property"). Matching uses tables that hash with the options' seed, on which no result depends;
-/// the threads of the options share the work. If findings are requested, the result has them too, and if something is
-/// requested for later merges, that. It then returns `NoHit` at the first place of a choice that fits no chosen hit,
-/// otherwise at the first such rule, then `TooMany` or `TooLong` at the suppression file if the new one could not be
-/// read again, then `TooLong` at the known log if this one could not. Returns `OutOfMemory` without a place if memory
-/// runs out.
+/// "baselineState property"). Matching uses tables that hash with the options' seed, on which no result depends; the
+/// threads of the options share the work. If findings are requested, the result has them too, and if something is
+/// requested for later merges, that. With a change, only results inside of it are reported, accepted and chosen. It
+/// then returns `NoHit` at the first place of a choice that fits no chosen hit, otherwise at the first such rule, then
+/// `TooMany` or `TooLong` at the suppression file if the new one could not be read again, then `TooLong` at the known
+/// log if this one could not. Returns `OutOfMemory` without a place if memory runs out.
 pub fn prepare<R: Threads + Sync>(
     rt: &R,
     alloc: Global,
@@ -266,16 +310,16 @@ pub fn prepare<R: Threads + Sync>(
     requires current { IsJudged rules.now.file.now false current }
     requires baseline { IsJudged rules.now.file.now true baseline }
     ensures prepared { IfOk result (IsPrepared asked.now.options.now.checks.matching
-        rules.now.file.now (placed_in current.entry)
-        (placed_in baseline.entry) (reporting_in asked.now)) }
+        rules.now.file.now (placed_in current.entry) (placed_in baseline.entry)
+        (change_in rules.now) asked.now.options.now.policy (reporting_in asked.now)) }
     ensures kept { IfOk result
         (λ prepared. IsKept (chosen_merge asked.now.options.now.checks
-        rules.now.file.now (bytes_of rules.now)
+        rules.now.file.now (bytes_of rules.now) (change_in rules.now)
         asked.now.options.now.policy (choice_in asked.now)
         (placed_in current.entry) (placed_in baseline.entry))
         (upkeep_in asked.now) prepared.life) }
     ensures unkept { IfErr result (IsUnkept (chosen_merge asked.now.options.now.checks
-        rules.now.file.now (bytes_of rules.now)
+        rules.now.file.now (bytes_of rules.now) (change_in rules.now)
         asked.now.options.now.policy (choice_in asked.now)
         (placed_in current.entry) (placed_in baseline.entry))
         (upkeep_in asked.now)) }

@@ -8,6 +8,7 @@ use Rattle.sarif_streams.specs.declared.counted.Counted.{Counted}
 use Rattle.sarif_streams.specs.declared.readers.Readers.{Readers}
 use Rattle.sarif_streams.specs.Counted.{failed_calls, RisesIf}
 use Rattle.sarif_streams.specs.Failing.{failed_calls_in, NoneFalls}
+use Rattle.sarif_streams.specs.OptionalReader.{failed_calls_if}
 use Rattle.sarif_streams.specs.WereRead.{failures, NoNumberFalls}
 use Rattle.sarif_streams.proofs.ReadersRead.{none_has_fallen}
 use Rattle.sarif_program.specs.Reports.{report_failures}
@@ -69,7 +70,7 @@ more_one (o ∷ os) (w ∷ ws) none more = elim (rose_or_same (failed_calls o) (
 
 reader_less : {R : Type 0} (old new : Readers R) → NoNumberFalls old new → failures old ≤ failures new
 reader_less old new none =
-    omega (arith, none_less old.logs.items new.logs.items none.logs, none_less old.baselines.items new.baselines.items none.baselines, none.suppressions)
+    omega (arith, none_less old.logs.items new.logs.items none.logs, none_less old.baselines.items new.baselines.items none.baselines, none.suppressions, none.diff)
 
 writer_less : {W S P : Type 0} (old new : Writers W S P) → NoWriterFalls old new → writer_failures old ≤ writer_failures new
 writer_less old new none =
@@ -85,7 +86,7 @@ writer_less old new none =
 
 reader_more : {R : Type 0} (old new : Readers R) → NoNumberFalls old new → ReaderRises old new → failures old < failures new
 reader_more old new none (inl log) =
-    omega (arith, one_more old.logs.items new.logs.items none.logs log, none_less old.baselines.items new.baselines.items none.baselines, none.suppressions)
+    omega (arith, one_more old.logs.items new.logs.items none.logs log, none_less old.baselines.items new.baselines.items none.baselines, none.suppressions, none.diff)
 reader_more old new none (inr (inl baseline)) =
     omega (
       arith,
@@ -93,9 +94,12 @@ reader_more old new none (inr (inl baseline)) =
       one_more old.baselines.items new.baselines.items none.baselines
           baseline,
       none.suppressions,
+      none.diff,
     )
-reader_more old new none (inr (inr file)) =
-    omega (arith, none_less old.logs.items new.logs.items none.logs, none_less old.baselines.items new.baselines.items none.baselines, file)
+reader_more old new none (inr (inr (inl file))) =
+    omega (arith, none_less old.logs.items new.logs.items none.logs, none_less old.baselines.items new.baselines.items none.baselines, file, none.diff)
+reader_more old new none (inr (inr (inr diff))) =
+    omega (arith, none_less old.logs.items new.logs.items none.logs, none_less old.baselines.items new.baselines.items none.baselines, none.suppressions, diff)
 
 writer_more : {W S P : Type 0} (old new : Writers W S P) → NoWriterFalls old new → WriterRises old new → writer_failures old < writer_failures new
 writer_more old new none (inl out) =
@@ -141,7 +145,10 @@ more_reader old new none more =
       | inl log ↦ inl (more_one old.logs.items new.logs.items none.logs log)
       | inr same ↦ inr (elim (rose_or_same (failed_calls_in old.baselines.items) (failed_calls_in new.baselines.items) baselines) [
         | inl baseline ↦ inl (more_one old.baselines.items new.baselines.items none.baselines baseline)
-        | inr too ↦ inr (omega (arith, more, same, too))
+        | inr too ↦ inr (elim (rose_or_same (failed_calls_if old.suppressions) (failed_calls_if new.suppressions) none.suppressions) [
+          | inl file ↦ inl file
+          | inr third ↦ inr (omega (arith, more, same, too, third))
+        ])
       ])
     ]
 

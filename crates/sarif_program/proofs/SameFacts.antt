@@ -24,6 +24,7 @@ same_facts request merged facts are = λ i. record {
   without = are.without i;
   unused = are.unused i;
   life = Some (are.life i);
+  change = are.change i;
 }
 
 -- the lines of the merge are those of these facts

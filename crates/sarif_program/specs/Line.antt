@@ -4,7 +4,7 @@ use Rattle.std.specs.Io.KnownBytes.{Appends}
 use Rattle.sarif_model.specs.declared.fault.Fault.{Fault}
 use Rattle.sarif_model.specs.declared.fault.Fault.TheVariants as fault
 use Rattle.sarif_model.specs.declared.merge_fault.At.{At}
-use Rattle.sarif_model.specs.declared.merge_fault.At.TheVariants.{Nowhere, Whole, Run, Single, Entry, Place, Rule}
+use Rattle.sarif_model.specs.declared.merge_fault.At.TheVariants.{Nowhere, Whole, Run, Single, Entry, Line, Place, Rule}
 use Rattle.sarif_model.specs.declared.merge_fault.Cause.{Cause}
 use Rattle.sarif_model.specs.declared.merge_fault.Cause.TheVariants as cause
 use Rattle.sarif_model.specs.FaultText.{at_text}
@@ -39,6 +39,11 @@ fault_name fault.EmptyMatch = codes "EmptyMatch"
 fault_name fault.NeedsToday = codes "NeedsToday"
 fault_name fault.NotSuccessful = codes "NotSuccessful"
 fault_name fault.NoHit = codes "NoHit"
+fault_name fault.NoChange = codes "NoChange"
+fault_name fault.Combined = codes "Combined"
+fault_name fault.BadHunk = codes "BadHunk"
+fault_name fault.BadHeader = codes "BadHeader"
+fault_name fault.Submodule = codes "Submodule"
 
 -- the name of a cause
 abbrev pub cause_name : Cause → List ℕ
@@ -57,6 +62,7 @@ placed (Run source run) name = at_text (Run source run) ++ (codes ": " ++ name)
 placed (Single source run result) name =
     at_text (Single source run result) ++ (codes ": " ++ name)
 placed (Entry entry) name = at_text (Entry entry) ++ (codes ": " ++ name)
+placed (Line number) name = at_text (Line number) ++ (codes ": " ++ name)
 placed (Place number) name = at_text (Place number) ++ (codes ": " ++ name)
 placed (Rule number) name = at_text (Rule number) ++ (codes ": " ++ name)
 

@@ -3,7 +3,6 @@ use Rattle.std.specs.Prelude.{◌≡◌, ◌<◌, ◌⊎◌, ℕ, List, [], ◌�
 use Rattle.std.specs.Io.KnownBytes.{Appends}
 use Rattle.std.specs.List.{AllZip}
 use Rattle.sarif_counts.specs.Counts.{count_at}
-use Rattle.sarif_counts.specs.Summary.{summary_of}
 use Rattle.sarif_log.specs.declared.merged.Merged.{Merged}
 use Rattle.sarif_model.specs.declared.merge_fault.At.TheVariants.{Whole}
 use Rattle.sarif_model.specs.declared.merge_fault.Cause.TheVariants.{WriteFailed}
@@ -11,6 +10,7 @@ use Rattle.sarif_model.specs.declared.merge_fault.Source.TheVariants.{Output}
 use Rattle.sarif_reports.specs.declared.report.Report.{Report}
 use Rattle.sarif_request.specs.declared.request.Request.{Request}
 use Rattle.sarif_request.specs.declared.wanted.RequestedOutput.{RequestedOutput}
+use Rattle.sarif_scope.specs.Told.{summary_told}
 use Rattle.sarif_streams.specs.declared.counted.Counted.{Counted}
 use Rattle.sarif_streams.specs.Counted.{failed_calls, inner_of}
 use Rattle.sarif_program.specs.declared.complaint.Complaint.{Complaint}
@@ -42,7 +42,7 @@ texts_of_merge request merged = record {
   log = merged.log;
   report = report_for request merged;
   lines = lines_for request merged;
-  summary = summary_of (count_at merged.counts) request.options.policy;
+  summary = summary_told merged.change (count_at merged.counts) request.options.policy;
 }
 
 -- a call of this writer failed, and the writer received a prefix of its text

@@ -42,6 +42,7 @@ facts_with request facts = record {
   without = facts.without;
   unused = facts.unused;
   life = Some facts.life.now;
+  change = facts.change;
 }
 
 -- what the outputs of this merge are made from
@@ -55,6 +56,7 @@ facts_for request merged = record {
   without = merged.without;
   unused = merged.unused;
   life = Some merged.life;
+  change = merged.change;
 }
 
 -- the text of an output of a merge with these facts

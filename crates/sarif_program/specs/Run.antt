@@ -3,10 +3,10 @@ use Rattle.std.specs.Prelude.{◌≡◌, ◌<◌, ◌≤◌, ◌+◌, ◌^◌, �
 use Rattle.std.specs.Io.KnownBytes.{Appends}
 use Rattle.std.specs.List.{AllZip}
 use Rattle.sarif_counts.specs.Counts.{count_at}
-use Rattle.sarif_counts.specs.Summary.{summary_of}
 use Rattle.sarif_log.specs.declared.merged.Merged.{Merged}
 use Rattle.sarif_merge.specs.FromReaders.{IsMergedWith}
 use Rattle.sarif_request.specs.declared.request.Request.{Request}
+use Rattle.sarif_scope.specs.Told.{summary_told}
 use Rattle.sarif_streams.specs.declared.readers.Readers.{Readers}
 use Rattle.sarif_streams.specs.Counted.{failed_calls, inner_of, RisesIf}
 use Rattle.sarif_streams.specs.Room.{HaveRoom}
@@ -68,7 +68,7 @@ pub record IsAcceptedAs {R W S P E : Type 0} (views : Views R W S P E) (request 
       old.writers.reports.items new.writers.reports.items
   pub summary : Appends (views.held.summary (inner_of old.writers.say))
       (views.held.summary (inner_of new.writers.say))
-      (summary_of (count_at merged.counts) request.options.policy)
+      (summary_told merged.change (count_at merged.counts) request.options.policy)
   pub noted : AreNoted views.held.messages (lines_for request merged)
       old.complaints new.complaints
 

@@ -42,7 +42,8 @@ abbrev pub ReaderRises : {R : Type 0} → Readers R → Readers R → Type 0
 ReaderRises old new =
     OneRises old.logs.items new.logs.items
     ⊎ (OneRises old.baselines.items new.baselines.items
-    ⊎ (failed_calls_if old.suppressions < failed_calls_if new.suppressions))
+    ⊎ ((failed_calls_if old.suppressions < failed_calls_if new.suppressions)
+    ⊎ (failed_calls_if old.diff < failed_calls_if new.diff)))
 
 -- a writer has more: `out`, a report's writer, or `say`
 abbrev pub WriterRises : {W S P : Type 0} → Writers W S P → Writers W S P → Type 0

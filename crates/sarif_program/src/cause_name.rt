@@ -45,5 +45,10 @@ fn fault_name(fault: Fault) -> &'static str
         Fault::NeedsToday => "NeedsToday",
         Fault::NotSuccessful => "NotSuccessful",
         Fault::NoHit => "NoHit",
+        Fault::NoChange => "NoChange",
+        Fault::Combined => "Combined",
+        Fault::BadHunk => "BadHunk",
+        Fault::BadHeader => "BadHeader",
+        Fault::Submodule => "Submodule",
     }
 }

@@ -1,18 +1,18 @@
 //! The outputs of a merge besides its log.
 ghost use Rattle.std.specs.Prelude.{◌≡◌, ◌≤◌, IfOk, map};
 ghost use Rattle.sarif_counts.specs.Counts.{count_at};
-ghost use Rattle.sarif_counts.specs.Summary.{summary_of};
+ghost use Rattle.sarif_scope.specs.Told.{summary_told};
 ghost use Rattle.sarif_shown.specs.Facts.{facts_of};
 ghost use Rattle.sarif_reports.specs.Report.{report_of};
 ghost use Rattle.sarif_program.specs.Notes as notes;
 ghost use Rattle.sarif_program.specs.Reports.{report_with, wanted_reports, texts_for};
 
 use crate::notes::lines_with;
-use sarif_counts::summary;
 use sarif_log::Facts;
 use sarif_model::Text;
 use sarif_reports::{Report, report_text};
 use sarif_request::{Request, RequestedOutput};
+use sarif_scope::summary_told;
 use sarif_shown::ReportInput;
 use std::alloc::{AllocError, Global};
 use std::thread;
@@ -108,14 +108,15 @@ fn reports_of<W, T: Threads + Sync>(
         without: facts.without,
         unused: facts.unused,
         life: Some(facts.life),
+        change: facts.change,
         seed: request.options.seed,
     };
     let reports = wanted_reports(alloc, writers)?;
     texts_told(rt, alloc, &told, reports, request.options.workers)
 }
 
-/// The summary of a merge with these facts, the lines after it, and the contents of the outputs that there are writers
-/// for. The threads of the options share the work of reports.
+/// Returns the summary of a merge with these facts, the lines after it, and the contents of the outputs that there are
+/// writers for. The threads of the options share the work of reports.
 pub(crate) fn texts_of<W, T: Threads + Sync>(
     rt: &T,
     alloc: Global,
@@ -124,13 +125,13 @@ pub(crate) fn texts_of<W, T: Threads + Sync>(
     writers: &[RequestedOutput<W>],
 ) -> Result<OutputTexts, AllocError>
     ensures summary { IfOk result (λ texts. texts.summary
-        ≡ summary_of (count_at facts.now.counts.now) request.now.options.policy) }
+        ≡ summary_told facts.now.change (count_at facts.now.counts.now) request.now.options.policy) }
     ensures lines { IfOk result
         (λ texts. texts.lines ≡ notes.lines_with request.now facts.now) }
     ensures reports { IfOk result (λ texts. texts.reports.items
         ≡ texts_for writers.now (report_with request.now facts.now)) }
 {
-    let summary = summary(alloc, facts.counts, &request.options.policy)?;
+    let summary = summary_told(alloc, facts.counts, &request.options.policy, &facts.change)?;
     let summary = Text::from_string(summary)?;
     let lines = lines_with(alloc, request, facts)?;
     let reports = reports_of(rt, alloc, facts, request, writers)?;

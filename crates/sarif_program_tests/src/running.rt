@@ -1,4 +1,5 @@
 //! What is written and reported, and with which exit status.
+use sarif_change::Scope;
 use sarif_model::{At, Cause, Fault, Level, MergeFault, Source};
 use sarif_program::{Complaint, Complaints};
 use sarif_request::Request;
@@ -53,7 +54,22 @@ const TWO: &str = concat!(
     r#"{"message":{"text":"m"},"ruleId":"R1"},{"message":{"text":"m"},"ruleId":"R1"}]}]}"#
 );
 
-/// Its first 50 bytes.
+/// A log of two results of one file: in lines 1 and 2.
+const LINES: &str = concat!(
+    r#"{"version":"2.1.0","runs":[{"tool":{"driver":{"name":"lint"}},"results":["#,
+    r#"{"message":{"text":"m"},"locations":[{"physicalLocation":{"artifactLocation":"#,
+    r#"{"uri":"a.c"},"region":{"startLine":1}}}]},"#,
+    r#"{"message":{"text":"m"},"locations":[{"physicalLocation":{"artifactLocation":"#,
+    r#"{"uri":"a.c"},"region":{"startLine":2}}}]}]}]}"#
+);
+
+/// A diff that adds line 2 of that file.
+const DIFF: &str = "--- a/a.c\n+++ b/a.c\n@@ -1,2 +1,3 @@\n x\n+y\n z\n";
+
+/// A suppression file without entries.
+const NO_ENTRIES: &str = r#"{"version":1,"suppressions":[]}"#;
+
+/// The first 50 bytes of the log of three results.
 const BROKEN: &str = r#"{"version":"2.1.0","runs":[{"tool":{"driver":{"nam"#;
 
 /// The log, ten bytes per read, which fails after this many reads.
@@ -73,6 +89,7 @@ fn run_by<T: Threads + Wait + Sync + AllocGlobal>(
         logs: vec![in alloc; Counted::new(log)]?,
         baselines: Vec::new(alloc),
         suppressions: None,
+        diff: None,
     };
     let setting = Setting {
         request,
@@ -116,6 +133,7 @@ fn run_all_by<T: Threads + Wait + Sync + AllocGlobal>(
         logs: vec![in alloc; Counted::new(log)]?,
         baselines: vec![in alloc; Counted::new(baseline)]?,
         suppressions: Some(Counted::new(suppressions)),
+        diff: None,
     };
     let setting = Setting {
         request,
@@ -134,6 +152,39 @@ fn run_all<T: Threads + Wait + Sync + AllocGlobal>(
 ) -> Result<Ended, AllocError> {
     let request = plain_request(threads.alloc())?;
     run_all_by(threads, &request, log, baseline, suppressions)
+}
+
+/// Runs a request over one log with a suppression file and a diff.
+fn run_change_by<T: Threads + Wait + Sync + AllocGlobal>(
+    threads: &T,
+    request: &Request,
+    log: &'static str,
+    suppressions: &'static str,
+    diff: GivenBytes,
+) -> Result<Ended, AllocError> {
+    let alloc = threads.alloc();
+    let mut readers = Readers {
+        logs: vec![in alloc; Counted::new(GivenBytes::whole(log))]?,
+        baselines: Vec::new(alloc),
+        suppressions: Some(Counted::new(GivenBytes::whole(suppressions))),
+        diff: Some(Counted::new(diff)),
+    };
+    let setting = Setting {
+        request,
+        rooms: AMPLE,
+        is_explained: false,
+    };
+    run_over(threads, alloc, &setting, &mut readers, Vec::new(alloc))
+}
+
+/// Runs the request of the standard streams over one log with a suppression file without entries and a diff.
+fn run_change<T: Threads + Wait + Sync + AllocGlobal>(
+    threads: &T,
+    log: &'static str,
+    diff: GivenBytes,
+) -> Result<Ended, AllocError> {
+    let request = plain_request(threads.alloc())?;
+    run_change_by(threads, &request, log, NO_ENTRIES, diff)
 }
 
 /// Asserts that a run passed, and wrote the merged log and its summary.
@@ -353,5 +404,86 @@ fn a_failed_read_is_told_at_its_source(rt: HostRuntime) -> Result<(), Fail> {
         failing(1),
     )?;
     assert_stopped(&rt, &ended, 3, b"sarif_gate: suppressions: ReadFailed\n");
+    Ok(())
+}
+
+#[test]
+fn results_outside_a_change_are_no_hits(rt: HostRuntime) -> Result<(), Fail> {
+    let mut request = plain_request(rt.alloc())?;
+    request.options.policy.fail_on = Level::Warning;
+    for (scope, told) in [
+        (
+            Scope::Lines,
+            b"\ndiff: files 1, lines 1, outside 1\ngate: fail, hits 1, max 0\n".as_slice(),
+        ),
+        (
+            Scope::Files,
+            b"\ndiff: files 1, lines 1, outside 0\ngate: fail, hits 2, max 0\n".as_slice(),
+        ),
+    ] {
+        request.options.checks.scope = scope;
+        let diff = GivenBytes::whole(DIFF);
+        let ended = run_change_by(&rt, &request, LINES, NO_ENTRIES, diff)?;
+        assert_eq!(rt; ended.status, 1);
+        assert!(rt; ended.say.ends_with(told));
+        assert!(rt; ended.complain.is_empty());
+    }
+    Ok(())
+}
+
+/// The diff is read last. It has one read for every ten bytes, and one more to see its end.
+#[test]
+fn each_read_of_a_diff_may_fail(rt: HostRuntime) -> Result<(), Fail> {
+    let reads = DIFF.len().div_ceil(10) as u32 + 1;
+    for good in 0..reads + 1 {
+        let ended = run_change(&rt, LOG, GivenBytes::failing_over(DIFF, good))?;
+        if good < reads {
+            assert_stopped(&rt, &ended, 3, b"sarif_gate: diff: ReadFailed\n");
+        } else {
+            assert_quiet(&rt, &ended);
+        }
+    }
+    Ok(())
+}
+
+#[test]
+fn a_bad_diff_is_told_at_its_line(rt: HostRuntime) -> Result<(), Fail> {
+    for (diff, line) in [
+        ("", b"sarif_gate: diff: NoChange\n".as_slice()),
+        (
+            "\ndiff --cc a.c\n",
+            b"sarif_gate: diff, line 2: Combined\n".as_slice(),
+        ),
+        (
+            "diff --git a/s b/s\nindex 1..2 160000\n",
+            b"sarif_gate: diff, line 2: Submodule\n".as_slice(),
+        ),
+        (
+            "diff --git a/a.c b/b.c\n",
+            b"sarif_gate: diff, line 1: BadHeader\n".as_slice(),
+        ),
+        (
+            "--- a/a.c\n+++ b/a.c\n@@ -1 +1\n",
+            b"sarif_gate: diff, line 3: BadHunk\n".as_slice(),
+        ),
+    ] {
+        let ended = run_change(&rt, BAD, GivenBytes::whole(diff))?;
+        assert_stopped(&rt, &ended, 2, line);
+        assert!(rt; ended.say.is_empty());
+    }
+    Ok(())
+}
+
+#[test]
+fn a_suppression_file_is_judged_before_a_diff(rt: HostRuntime) -> Result<(), Fail> {
+    let request = plain_request(rt.alloc())?;
+    let file = r#"{"version":1,"suppressions":[{}]}"#;
+    let ended = run_change_by(&rt, &request, BAD, file, GivenBytes::whole(""))?;
+    assert_stopped(
+        &rt,
+        &ended,
+        2,
+        b"sarif_gate: suppressions, entry 0: EmptyMatch\n",
+    );
     Ok(())
 }

@@ -120,6 +120,7 @@ fn run<T: Threads + Wait + Sync + AllocGlobal>(
         logs: vec![in alloc; Counted::new(GivenBytes::whole(log))]?,
         baselines: Vec::new(alloc),
         suppressions: None,
+        diff: None,
     };
     let later = RefCell::new(Vec::new(alloc));
     let to = Counted::new(Narrow::new(&later, 10_000, rooms.later));

@@ -12,8 +12,10 @@ use Rattle.serde_json.proofs.Texts.{print-outline}
 use Rattle.sarif_findings.specs.declared.finding.Finding.{Finding}
 use Rattle.sarif_findings.specs.declared.reporting.Reporting.{Reporting}
 use Rattle.sarif_reports.specs.GitlabReport.{quality_of, items_after, mark_of, rank_among, gitlab_of}
-use Rattle.sarif_findings.specs.Reported.{reported_of}
-use Rattle.sarif_findings.proofs.ToldFindings.{IsTold, all_told}
+use Rattle.sarif_shown.specs.ReportedInside.{reported_by}
+use Rattle.sarif_findings.proofs.ToldFindings.{IsTold}
+use Rattle.sarif_scope.specs.declared.gated.GatedChange.{GatedChange}
+use Rattle.sarif_shown.proofs.FindingsInside.{told_inside}
 
 line_fits : (o : Option ℕ) → IfSome o (λ n. n < 2 ^ 64) → unwrap_or o 1 < 2 ^ 64
 line_fits None h = omega arith
@@ -35,10 +37,10 @@ items_depth : (before fs : List Finding) → tree.items_depth (items_outline (it
 items_depth before [] = omega arith
 items_depth before (f ∷ fs) = max-le (quality_depth f (mark_of f (rank_among before f))) (items_depth (before ++ f ∷ []) fs)
 
-pub array_read : (reporting : Reporting) (log : Data)
-    → document (gitlab_of (reported_of reporting log)) ≡ Some (outline (array (items_after [] (reported_of reporting log))))
-array_read reporting log =
-    let fs = reported_of reporting log in
+pub array_read : (change : Option GatedChange) (reporting : Reporting) (log : Data)
+    → document (gitlab_of (reported_by change reporting log)) ≡ Some (outline (array (items_after [] (reported_by change reporting log))))
+array_read change reporting log =
+    let fs = reported_by change reporting log in
     let shallow = items_depth [] fs in
     ap document (sym (print-outline (array (items_after [] fs))))
-    ∙ document-print (outline (array (items_after [] fs))) (items_numbers [] fs (all_told reporting log)) (omega (arith, shallow))
+    ∙ document-print (outline (array (items_after [] fs))) (items_numbers [] fs (told_inside change reporting log)) (omega (arith, shallow))

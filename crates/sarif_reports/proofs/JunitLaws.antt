@@ -1,5 +1,5 @@
 -- The laws of the report in JUnit XML.
-use Rattle.std.proofs.Common.{◌≡◌, ◌<◌, ◌≤◌, ◌^◌, ◌+◌, ◌==◌, ◌||◌, ◌++◌, ℕ, Bool, true, false, List, [], ◌∷◌, codes, length, chars, if◌then◌else◌, refl, sym, ap, ◌∙◌, append-nil, ⊎_elim, arith}
+use Rattle.std.proofs.Common.{Option, ◌≡◌, ◌<◌, ◌≤◌, ◌^◌, ◌+◌, ◌==◌, ◌||◌, ◌++◌, ℕ, Bool, true, false, List, [], ◌∷◌, codes, length, chars, if◌then◌else◌, refl, sym, ap, ◌∙◌, append-nil, ⊎_elim, arith}
 use Rattle.std.specs.Prelude.{nat_lt}
 use Rattle.std.specs.List.{list_all}
 use Rattle.std.specs.Str.{IsUtf8}
@@ -11,58 +11,57 @@ use Rattle.serde_json.specs.Data.{Data}
 use Rattle.sarif_model.specs.Run.{runs_of}
 use Rattle.sarif_counts.specs.declared.gate_verdict.Verdict.{Verdict}
 use Rattle.sarif_counts.specs.declared.gate_verdict.Verdict.TheVariants.{Pass, Fail}
-use Rattle.sarif_counts.specs.Hits.{hits_of, verdict_of}
-use Rattle.sarif_counts.specs.CountOf.{count_of}
 use Rattle.sarif_findings.specs.declared.finding.Finding.{Finding}
 use Rattle.sarif_findings.specs.declared.reporting.Reporting.{Reporting}
-use Rattle.sarif_findings.specs.Reported.{reported_of}
+use Rattle.sarif_shown.specs.ReportedInside.{reported_by}
 use Rattle.sarif_findings.specs.Shown.{is_blank_letter, is_concealed, is_control, is_unseen_mark}
 use Rattle.sarif_findings.specs.ShownLaws.{is_seen}
 use Rattle.sarif_findings.proofs.CharsBack.{chars_back}
-use Rattle.sarif_findings.proofs.HitsReported.{hits_reported}
-use Rattle.sarif_findings.proofs.ToldFindings.{all_told}
+use Rattle.sarif_shown.proofs.FindingsInside.{hits_inside, told_inside}
 use Rattle.sarif_reports.specs.JunitLaws.{IsXmlText, cases_of, document_of, fails, is_xml_char, occurrences}
 use Rattle.sarif_reports.specs.JunitReport.{failures_in, hits_in, skipped_in}
 use Rattle.sarif_shown.specs.Listed.{listed}
 use Rattle.sarif_reports.proofs.JunitApart.{IsLines, Piece, case_tag, document_piece, failure_tag, skipped_tag}
 use Rattle.sarif_shown.proofs.ListedMore.{counted_listed, length_listed, listed_told}
+use Rattle.sarif_scope.specs.declared.gated.GatedChange.{GatedChange}
+use Rattle.sarif_scope.specs.Counted.{hits_by, verdict_by}
 
 -- the numbers of elements of a whole document
 whole : (part text : List ℕ) (n : ℕ) → ((more : List ℕ) → occurrences part (text ++ more) ≡ occurrences part more + n) → occurrences part text ≡ n
 whole part text n h = ap (occurrences part) (sym (append-nil text)) ∙ h [] ∙ omega arith
 
-abbrev verdict_on : Reporting → Data → Verdict
-verdict_on reporting log = verdict_of (count_of (runs_of log)) reporting.policy
+abbrev verdict_on : Option GatedChange → Reporting → Data → Verdict
+verdict_on change reporting log = verdict_by change reporting.policy (runs_of log)
 
-piece : (reporting : Reporting) (log : Data) → length (reported_of reporting log) < 2 ^ 64
-    → Piece (cases_of (length (listed (reported_of reporting log)))) (failures_in (verdict_on reporting log) (listed (reported_of reporting log)))
-    (skipped_in (verdict_on reporting log) (listed (reported_of reporting log))) (document_of reporting log)
-piece reporting log small =
-    let fs = reported_of reporting log in
+piece : (change : Option GatedChange) (reporting : Reporting) (log : Data) → length (reported_by change reporting log) < 2 ^ 64
+    → Piece (cases_of (length (listed (reported_by change reporting log)))) (failures_in (verdict_on change reporting log) (listed (reported_by change reporting log)))
+    (skipped_in (verdict_on change reporting log) (listed (reported_by change reporting log))) (document_of change reporting log)
+piece change reporting log small =
+    let fs = reported_by change reporting log in
     let size = length_listed fs in
-    document_piece (verdict_on reporting log) (listed fs) (listed_told fs (all_told reporting log)) (omega (arith, size, small))
+    document_piece (verdict_on change reporting log) (listed fs) (listed_told fs (told_inside change reporting log)) (omega (arith, size, small))
 
-pub cases_told : (reporting : Reporting) (log : Data) → length (reported_of reporting log) < 2 ^ 64
-    → occurrences (codes "<testcase ") (document_of reporting log) ≡ cases_of (length (reported_of reporting log))
-cases_told reporting log small =
-    whole case_tag (document_of reporting log) _ (piece reporting log small).cases ∙ ap cases_of (length_listed (reported_of reporting log))
+pub cases_told : (change : Option GatedChange) (reporting : Reporting) (log : Data) → length (reported_by change reporting log) < 2 ^ 64
+    → occurrences (codes "<testcase ") (document_of change reporting log) ≡ cases_of (length (reported_by change reporting log))
+cases_told change reporting log small =
+    whole case_tag (document_of change reporting log) _ (piece change reporting log small).cases ∙ ap cases_of (length_listed (reported_by change reporting log))
 
 both : (v : Verdict) (fs : List Finding) → failures_in v fs + skipped_in v fs ≡ hits_in fs
 both Fail fs = omega arith
 both Pass fs = omega arith
 
-hits_told : (reporting : Reporting) (log : Data) → hits_in (listed (reported_of reporting log)) ≡ hits_of (count_of (runs_of log)) reporting.policy
-hits_told reporting log = counted_listed (λ f. f.hit) (reported_of reporting log) ∙ hits_reported reporting log
+hits_told : (change : Option GatedChange) (reporting : Reporting) (log : Data) → hits_in (listed (reported_by change reporting log)) ≡ hits_by change reporting.policy (runs_of log)
+hits_told change reporting log = counted_listed (λ f. f.hit) (reported_by change reporting log) ∙ hits_inside change reporting log
 
-pub hits_shown : (reporting : Reporting) (log : Data) → length (reported_of reporting log) < 2 ^ 64
-    → occurrences (codes "<failure ") (document_of reporting log) + occurrences (codes "<skipped ") (document_of reporting log)
-    ≡ hits_of (count_of (runs_of log)) reporting.policy
-hits_shown reporting log small =
-    let fs = listed (reported_of reporting log) in
-    let failures = whole failure_tag (document_of reporting log) _ (piece reporting log small).failures in
-    let skips = whole skipped_tag (document_of reporting log) _ (piece reporting log small).skips in
-    let hits = both (verdict_on reporting log) fs in
-    let told = hits_told reporting log in
+pub hits_shown : (change : Option GatedChange) (reporting : Reporting) (log : Data) → length (reported_by change reporting log) < 2 ^ 64
+    → occurrences (codes "<failure ") (document_of change reporting log) + occurrences (codes "<skipped ") (document_of change reporting log)
+    ≡ hits_by change reporting.policy (runs_of log)
+hits_shown change reporting log small =
+    let fs = listed (reported_by change reporting log) in
+    let failures = whole failure_tag (document_of change reporting log) _ (piece change reporting log small).failures in
+    let skips = whole skipped_tag (document_of change reporting log) _ (piece change reporting log small).skips in
+    let hits = both (verdict_on change reporting log) fs in
+    let told = hits_told change reporting log in
     omega (arith, failures, skips, hits, told)
 
 failed_by : (b : Bool) (max hits n : ℕ) → nat_lt max hits ≡ b → n ≡ (if b then hits else 0) → nat_lt 0 n ≡ b
@@ -79,13 +78,13 @@ fails_by : (b : Bool) → fails (if b then Fail else Pass) ≡ b
 fails_by true = refl
 fails_by false = refl
 
-pub failures_tell : (reporting : Reporting) (log : Data) → length (reported_of reporting log) < 2 ^ 64
-    → nat_lt 0 (occurrences (codes "<failure ") (document_of reporting log)) ≡ fails (verdict_of (count_of (runs_of log)) reporting.policy)
-failures_tell reporting log small =
-    let hits = hits_of (count_of (runs_of log)) reporting.policy in
+pub failures_tell : (change : Option GatedChange) (reporting : Reporting) (log : Data) → length (reported_by change reporting log) < 2 ^ 64
+    → nat_lt 0 (occurrences (codes "<failure ") (document_of change reporting log)) ≡ fails (verdict_by change reporting.policy (runs_of log))
+failures_tell change reporting log small =
+    let hits = hits_by change reporting.policy (runs_of log) in
     let over = nat_lt reporting.policy.max hits in
-    let failures = whole failure_tag (document_of reporting log) _ (piece reporting log small).failures in
-    let told = failures_by over (listed (reported_of reporting log)) ∙ ap (λ n. if over then n else 0) (hits_told reporting log) in
+    let failures = whole failure_tag (document_of change reporting log) _ (piece change reporting log small).failures in
+    let told = failures_by over (listed (reported_by change reporting log)) ∙ ap (λ n. if over then n else 0) (hits_told change reporting log) in
     failed_by over reporting.policy.max hits _ refl (failures ∙ told) ∙ sym (fails_by over)
 
 -- ---- characters
@@ -117,6 +116,6 @@ lines_xml text lines utf8 =
     let same : chars text ≡ lines.0 = sym (ap chars lines.1) ∙ chars_back lines.0 in
     (lines.0, lines.1, all_xml lines.0 lines.2 (ap scalars (sym same) ∙ scalars-chars text utf8))
 
-pub characters_allowed : (reporting : Reporting) (log : Data) → length (reported_of reporting log) < 2 ^ 64
-    → IsUtf8 (document_of reporting log) → IsXmlText (document_of reporting log)
-characters_allowed reporting log small utf8 = lines_xml (document_of reporting log) (piece reporting log small).lines utf8
+pub characters_allowed : (change : Option GatedChange) (reporting : Reporting) (log : Data) → length (reported_by change reporting log) < 2 ^ 64
+    → IsUtf8 (document_of change reporting log) → IsXmlText (document_of change reporting log)
+characters_allowed change reporting log small utf8 = lines_xml (document_of change reporting log) (piece change reporting log small).lines utf8

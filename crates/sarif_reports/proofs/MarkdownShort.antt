@@ -1,5 +1,5 @@
 -- The length of the report in Markdown.
-use Rattle.std.proofs.Common.{◌==◌, ◌<◌, ◌≤◌, ◌+◌, ◌^◌, ◌++◌, ℕ, Bool, true, false, List, [], ◌∷◌, Option, codes, decimal, flat_map, length, length-append, if◌then◌else◌, arith}
+use Rattle.std.proofs.Common.{◌==◌, ◌<◌, ◌≤◌, ◌+◌, ◌^◌, ◌++◌, ℕ, Bool, true, false, List, [], ◌∷◌, Option, Some, None, codes, decimal, flat_map, length, length-append, if◌then◌else◌, arith}
 use Rattle.std.proofs.lemmas.Fmt.{length-decimal-le}
 use Rattle.sarif_model.specs.declared.kinds.Level.{Level}
 use Rattle.sarif_model.specs.declared.kinds.State.{State}
@@ -15,16 +15,18 @@ use Rattle.sarif_counts.specs.declared.tally.ByLevel.{ByLevel}
 use Rattle.sarif_counts.specs.declared.tally.Tally.{Tally}
 use Rattle.sarif_counts.specs.Counts.{count_at}
 use Rattle.sarif_options.specs.Policy.{is_listed}
-use Rattle.sarif_counts.specs.Hits.{Count, count_if, hits_at, hits_of, severe_of, verdict_name, verdict_of}
+use Rattle.sarif_counts.specs.Hits.{Count, count_if, hits_at, hits_of, severe_of, verdict_name}
 use Rattle.sarif_counts.specs.Tally.{at_level, at_side, level_total, tally_total}
 use Rattle.sarif_counts.specs.Summary.{suppressed_of}
 use Rattle.sarif_findings.specs.declared.finding.Finding.{Finding}
 use Rattle.sarif_shown.specs.CountRow.{row_begin, row_end}
 use Rattle.sarif_shown.specs.Facts.{Facts}
-use Rattle.sarif_reports.specs.MarkdownLaws.{AreSmall}
+use Rattle.sarif_reports.specs.MarkdownLaws.{AreSmall, most_of}
 use Rattle.sarif_reports.specs.MarkdownReport.{accept_line, count_row, counts_table, heading, in_table, last_lines, left_out, line_if, markdown_of, notes, others_line, paragraph, results_table, row_text, table_of, unshown_line}
-use Rattle.sarif_shown.specs.Sentences.{accept_text, counted, entries_text, gate_end, gate_text, hits_text, more_hits, more_of_both, more_others, more_text, runs_text, unshown_text}
-use Rattle.sarif_shown.specs.Unshown.{unshown_number}
+use Rattle.sarif_shown.specs.Sentences.{accept_text, counted, entries_text, gate_end, gate_text, hits_text, more_hits, more_of_both, more_others, more_text, outside_text, runs_text, unshown_text}
+use Rattle.sarif_scope.specs.Told.{hits_told, outside_told, verdict_told}
+use Rattle.sarif_scope.specs.declared.facts.ChangeFacts.{ChangeFacts}
+use Rattle.sarif_shown.specs.Unshown.{reported_told, unshown_number}
 use Rattle.sarif_findings.specs.declared.reporting.Show.{Show}
 use Rattle.sarif_findings.specs.declared.reporting.Show.TheVariants.{Hits, All}
 use Rattle.sarif_reports.proofs.TableRows.{hits_few, results_parted, table_fits, state_few}
@@ -41,6 +43,11 @@ eleven n h = length-decimal-le 11 n (omega arith) (omega (arith, h)) (omega (ari
 
 twenty : (n : ℕ) → n < 2 ^ 64 → length (decimal n) ≤ 20
 twenty n h = length-decimal-le 20 n (omega arith) (omega (arith, h)) h
+
+-- the bytes of the sentence that a change adds
+abbrev room_of : Option ChangeFacts → ℕ
+room_of None = 0
+room_of (Some facts) = 53
 
 -- ---- sentences
 
@@ -79,11 +86,24 @@ paragraph_few : (k : ℕ) (text : List ℕ) → length text ≤ k → length (pa
 paragraph_few k [] h = omega arith
 paragraph_few k (b ∷ bs) h = omega (arith, h)
 
-notes_few : (without unused : ℕ) → without < 2 ^ 32 → unused < 2 ^ 32 → length (notes without unused) ≤ 121
-notes_few without unused w u =
-    two 75 46 (line_if without (runs_text without)) (line_if unused (entries_text unused))
-    (line_few 74 without _ (counted_few 10 64 without _ _ (ten without w) (omega arith) (omega arith)))
-    (line_few 45 unused _ (counted_few 10 35 unused _ _ (ten unused u) (omega arith) (omega arith)))
+-- the line on results outside of a change fits into the room for it; without a change there are no such results
+outside_few : (change : Option ChangeFacts) → outside_told change < 2 ^ 32
+    → length (line_if (outside_told change) (outside_text (outside_told change))) ≤ room_of change
+outside_few None h = omega arith
+outside_few (Some facts) h =
+    line_few 52 facts.outside _ (counted_few 10 42 facts.outside _ _ (ten facts.outside h) (omega arith) (omega arith))
+
+notes_few : (without unused : ℕ) (change : Option ChangeFacts) → without < 2 ^ 32 → unused < 2 ^ 32 → outside_told change < 2 ^ 32
+    → length (notes without unused (outside_told change)) ≤ 121 + room_of change
+notes_few without unused change w u o =
+    let last : List ℕ = line_if (outside_told change) (outside_text (outside_told change)) in
+    let first : length (line_if without (runs_text without)) ≤ 75 =
+    line_few 74 without _ (counted_few 10 64 without _ _ (ten without w) (omega arith) (omega arith)) in
+    let next : length (line_if unused (entries_text unused) ++ last) ≤ 46 + room_of change =
+    two 46 (room_of change) (line_if unused (entries_text unused)) last
+    (line_few 45 unused _ (counted_few 10 35 unused _ _ (ten unused u) (omega arith) (omega arith))) (outside_few change o) in
+    let whole = length-append (line_if without (runs_text without)) (line_if unused (entries_text unused) ++ last) in
+    omega (arith, first, next, whole)
 
 more_by : (all none : Bool) (n hits : ℕ) → n < 2 ^ 64 → hits < 2 ^ 64
     → length (if all then more_hits n else (if none then more_others n else more_of_both n hits)) ≤ 92
@@ -190,28 +210,48 @@ all_hits count policy small =
     let a = state_hits count policy Absent small in
     omega (arith, f, c, u, a)
 
-all_unshown : (show : Show) (count : Count) (policy : Policy) → ((s : State) (l : Level) (b : Bool) → count s l b < 2 ^ 32)
-    → unshown_number show count policy < 2 ^ 36
-all_unshown All count policy small = omega arith
-all_unshown Hits count policy small = let all = all_hits count (record policy { fail_on = NoLevel }) small in omega (arith, all)
+all_told : (change : Option ChangeFacts) (count : Count) (policy : Policy) → ((s : State) (l : Level) (b : Bool) → count s l b < 2 ^ 32)
+    → hits_told change count policy < 2 ^ 36
+all_told None count policy small = all_hits count policy small
+all_told (Some facts) count policy small = let all = all_hits count policy small in omega (arith, all)
 
-pub report_few : (facts : Facts) → AreSmall facts → length (markdown_of facts) ≤ 61000
+all_reported : (change : Option ChangeFacts) (count : Count) (policy : Policy) → ((s : State) (l : Level) (b : Bool) → count s l b < 2 ^ 32)
+    → reported_told change count policy < 2 ^ 36
+all_reported None count policy small = all_hits count (record policy { fail_on = NoLevel }) small
+all_reported (Some facts) count policy small = let all = all_hits count (record policy { fail_on = NoLevel }) small in omega (arith, all)
+
+all_unshown : (change : Option ChangeFacts) (show : Show) (count : Count) (policy : Policy) → ((s : State) (l : Level) (b : Bool) → count s l b < 2 ^ 32)
+    → unshown_number change show count policy < 2 ^ 36
+all_unshown change All count policy small = omega arith
+all_unshown change Hits count policy small = let all = all_reported change count policy small in omega (arith, all)
+
+-- what a change adds fits into what it may add
+most_by : (change : Option ChangeFacts) (n : ℕ) → n ≤ 60999 + room_of change → n ≤ most_of change
+most_by None n h = omega (arith, h)
+most_by (Some facts) n h = omega (arith, h)
+
+pub report_few : (facts : Facts) → AreSmall facts → length (markdown_of facts) ≤ most_of facts.change
 report_few facts small =
-    let hits = hits_of facts.count facts.policy in
-    let unshown = unshown_number facts.show facts.count facts.policy in
-    let few = all_hits facts.count facts.policy small.counts in
+    let verdict = verdict_told facts.change facts.count facts.policy in
+    let hits = hits_told facts.change facts.count facts.policy in
+    let unshown = unshown_number facts.change facts.show facts.count facts.policy in
+    let few = all_told facts.change facts.count facts.policy small.counts in
     let ends : List ℕ = last_lines unshown hits in
     let results : List ℕ = results_table facts.link facts.findings ++ ends in
-    let noted : List ℕ = paragraph (notes facts.without facts.unused) ++ results in
-    let whole =
-    two 70 60929 (heading (verdict_of facts.count facts.policy) hits facts.policy.max) (counts_table facts.count ++ noted)
-    (heading_few (verdict_of facts.count facts.policy) hits facts.policy.max (omega (arith, few)) small.max)
-    (two 400 60529 (counts_table facts.count) noted (counts_few facts.count small.counts)
-    (two 122 60407 (paragraph (notes facts.without facts.unused)) results
-    (paragraph_few 121 (notes facts.without facts.unused) (notes_few facts.without facts.unused small.without small.unused))
-    (two 60184 223 (results_table facts.link facts.findings) ends (results_by (length facts.findings == 0) facts.link facts.findings small.findings)
-    (last_few unshown hits (all_unshown facts.show facts.count facts.policy small.counts))))) in
-    omega (arith, whole)
+    let sentences : List ℕ = paragraph (notes facts.without facts.unused (outside_told facts.change)) in
+    let noted : List ℕ = sentences ++ results in
+    let top = heading_few verdict hits facts.policy.max (omega (arith, few)) small.max in
+    let counts = counts_few facts.count small.counts in
+    let said =
+    paragraph_few (121 + room_of facts.change) (notes facts.without facts.unused (outside_told facts.change))
+    (notes_few facts.without facts.unused facts.change small.without small.unused small.outside) in
+    let last =
+    two 60184 223 (results_table facts.link facts.findings) ends (results_by (length facts.findings == 0) facts.link facts.findings small.findings)
+    (last_few unshown hits (all_unshown facts.change facts.show facts.count facts.policy small.counts)) in
+    let first = length-append (heading verdict hits facts.policy.max) (counts_table facts.count ++ noted) in
+    let second = length-append (counts_table facts.count) noted in
+    let third = length-append sentences results in
+    most_by facts.change (length (markdown_of facts)) (omega (arith, top, counts, said, last, first, second, third))
 
 -- ---- the counts of a merge have 32 bits
 

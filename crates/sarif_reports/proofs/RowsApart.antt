@@ -27,7 +27,7 @@ use Rattle.sarif_shown.specs.Linked.{place_link}
 use Rattle.sarif_findings.specs.Finding.{spot_text}
 use Rattle.sarif_reports.specs.MarkdownReport.{Row, anchor, code_line, code_of, hit_cell, is_coded, linked, place_cell, result_row, row_text, rule_cell, title_of}
 use Rattle.sarif_reports.specs.MarkdownLaws.{AreLinks, have_bars}
-use Rattle.sarif_findings.specs.Reported.{reported_of}
+use Rattle.sarif_shown.specs.ReportedInside.{reported_by}
 use Rattle.sarif_findings.specs.ShownLaws.{is_seen, are_seen}
 use Rattle.sarif_shown.proofs.EscapedApart.{decimal_digits, mark_small}
 use Rattle.sarif_findings.proofs.HighBytes.{high_apart, char_kept}
@@ -39,6 +39,7 @@ use Rattle.sarif_reports.specs.MarkdownReport.{most_rows, most_bytes, fitting, i
 use Rattle.sarif_reports.proofs.AddressRows.{IsAddressed, address_chars, link_addressed, sign_small}
 use Rattle.sarif_reports.proofs.Tabled.{IsTabled, all_tabled, code_seen, line_seen, listed_each}
 use Rattle.std.specs.Prelude.{nat_le}
+use Rattle.sarif_scope.specs.declared.gated.GatedChange.{GatedChange}
 
 -- this many lines end, each with eight bars, after this many earlier ones
 record Cells (count before : ℕ) (text : List ℕ) : Type 0 where
@@ -294,16 +295,16 @@ table_tabled link fs h =
     (numbered_tabled 0 (take most_rows (listed fs))
     (recursion_from_All IsTabled (take most_rows (listed fs)) (All-take IsTabled most_rows (listed fs) (All-from_recursion IsTabled (listed fs) all))))
 
-table_rows : (link : Option (List ℕ)) (reporting : Reporting) (log : Data) → AreLinks link
-    → Cells (length (in_table link (reported_of reporting log))) 0 (flat_map (row_text link) (in_table link (reported_of reporting log)))
-table_rows link reporting log links =
-    let fs = reported_of reporting log in
-    all_rows link (in_table link fs) links (table_tabled link fs (all_tabled reporting log))
+table_rows : (link : Option (List ℕ)) (change : Option GatedChange) (reporting : Reporting) (log : Data) → AreLinks link
+    → Cells (length (in_table link (reported_by change reporting log))) 0 (flat_map (row_text link) (in_table link (reported_by change reporting log)))
+table_rows link change reporting log links =
+    let fs = reported_by change reporting log in
+    all_rows link (in_table link fs) links (table_tabled link fs (all_tabled change reporting log))
 
-pub rows_barred : (link : Option (List ℕ)) (reporting : Reporting) (log : Data) → AreLinks link
-    → have_bars 8 0 (flat_map (row_text link) (in_table link (reported_of reporting log))) ≡ true
-rows_barred link reporting log links = (table_rows link reporting log links).bars
+pub rows_barred : (link : Option (List ℕ)) (change : Option GatedChange) (reporting : Reporting) (log : Data) → AreLinks link
+    → have_bars 8 0 (flat_map (row_text link) (in_table link (reported_by change reporting log))) ≡ true
+rows_barred link change reporting log links = (table_rows link change reporting log links).bars
 
-pub rows_end : (link : Option (List ℕ)) (reporting : Reporting) (log : Data) → AreLinks link
-    → count_by (λ b. b == 10) (flat_map (row_text link) (in_table link (reported_of reporting log))) ≡ length (in_table link (reported_of reporting log))
-rows_end link reporting log links = (table_rows link reporting log links).ends
+pub rows_end : (link : Option (List ℕ)) (change : Option GatedChange) (reporting : Reporting) (log : Data) → AreLinks link
+    → count_by (λ b. b == 10) (flat_map (row_text link) (in_table link (reported_by change reporting log))) ≡ length (in_table link (reported_by change reporting log))
+rows_end link change reporting log links = (table_rows link change reporting log links).ends

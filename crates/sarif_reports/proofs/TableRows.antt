@@ -18,15 +18,13 @@ use Rattle.sarif_model.specs.declared.kinds.State.TheVariants.{New, Unchanged, U
 use Rattle.sarif_model.specs.Level.{level_name}
 use Rattle.sarif_model.specs.State.{state_name}
 use Rattle.sarif_model.specs.Run.{runs_of}
-use Rattle.sarif_counts.specs.CountOf.{count_of}
-use Rattle.sarif_counts.specs.Hits.{hits_of}
 use Rattle.sarif_findings.specs.declared.finding.Finding.{Finding}
 use Rattle.sarif_findings.specs.declared.reporting.Reporting.{Reporting}
 use Rattle.sarif_findings.specs.Finding.{spot_text, place, place_path, numbered, begins_with_colon}
-use Rattle.sarif_findings.specs.Reported.{reported_of}
+use Rattle.sarif_shown.specs.ReportedInside.{reported_by}
 use Rattle.sarif_findings.specs.Shown.{kept, most_characters, shown_chars}
 use Rattle.sarif_findings.proofs.CharsBack.{chars_back}
-use Rattle.sarif_findings.proofs.HitsReported.{hits_reported}
+use Rattle.sarif_shown.proofs.FindingsInside.{hits_inside}
 use Rattle.sarif_findings.proofs.ToldFindings.{IsShown, IsPath, IsTold}
 use Rattle.sarif_shown.specs.declared.escaping.Escaping.TheVariants.{Markdown, Page}
 use Rattle.sarif_shown.specs.Escaped.{escaped, escaped_char, is_mark, markdown_char}
@@ -43,6 +41,8 @@ use Rattle.sarif_reports.proofs.AddressRows.{IsAddressed, address_chars, link_ad
 use Rattle.sarif_reports.proofs.Tabled.{IsTabled, all_tabled, code_seen, line_seen, listed_each}
 use Rattle.sarif_shown.proofs.ListedMore.{counted_listed, length_listed}
 use Rattle.sarif_shown.proofs.TextApart.{decimal_plain, is_plain, plain_bytes}
+use Rattle.sarif_scope.specs.declared.gated.GatedChange.{GatedChange}
+use Rattle.sarif_scope.specs.Counted.{hits_by}
 
 -- ---- the rows fit
 
@@ -138,14 +138,14 @@ rows_hits (row ∷ rows) =
     sum_by-cons (λ (one : Row). cond one.1.hit 1 0) row rows ∙ ap (λ n. cond row.1.hit 1 0 + n) (rows_hits rows)
     ∙ sym (sum_by-cons (λ (g : Finding). cond g.hit 1 0) row.1 (results_in rows))
 
-pub hits_parted : (link : Option (List ℕ)) (reporting : Reporting) (log : Data)
-    → count_by (λ row. row.1.hit) (in_table link (reported_of reporting log)) + hits_in (left_out link (reported_of reporting log))
-    ≡ hits_of (count_of (runs_of log)) reporting.policy
-hits_parted link reporting log =
-    let fs : List Finding = reported_of reporting log in
+pub hits_parted : (link : Option (List ℕ)) (change : Option GatedChange) (reporting : Reporting) (log : Data)
+    → count_by (λ row. row.1.hit) (in_table link (reported_by change reporting log)) + hits_in (left_out link (reported_by change reporting log))
+    ≡ hits_by change reporting.policy (runs_of log)
+hits_parted link change reporting log =
+    let fs : List Finding = reported_by change reporting log in
     ap (λ n. n + hits_in (left_out link fs)) (rows_hits (in_table link fs))
     ∙ sym (sum_by-append (λ g. cond g.hit 1 0) (results_in (in_table link fs)) (left_out link fs)) ∙ ap hits_in (table_parts link fs)
-    ∙ counted_listed (λ f. f.hit) fs ∙ hits_reported reporting log
+    ∙ counted_listed (λ f. f.hit) fs ∙ hits_inside change reporting log
 
 -- ---- one row fits
 
@@ -369,11 +369,11 @@ rows_short : (link : Option (List ℕ)) (coded : Bool) (fs : List Finding) → A
 rows_short link coded [] links h = tt
 rows_short link coded (f ∷ fs) links h = (row_few link coded f links h.0, rows_short link coded fs links h.1)
 
-pub each_short : (link : Option (List ℕ)) (coded : Bool) (reporting : Reporting) (log : Data) → AreLinks link
-    → All (λ f. length (result_row link coded f) ≤ 48000) (reported_of reporting log)
-each_short link coded reporting log links =
-    All-from_recursion (λ f. length (result_row link coded f) ≤ 48000) (reported_of reporting log)
-    (rows_short link coded (reported_of reporting log) links (all_tabled reporting log))
+pub each_short : (link : Option (List ℕ)) (coded : Bool) (change : Option GatedChange) (reporting : Reporting) (log : Data) → AreLinks link
+    → All (λ f. length (result_row link coded f) ≤ 48000) (reported_by change reporting log)
+each_short link coded change reporting log links =
+    All-from_recursion (λ f. length (result_row link coded f) ≤ 48000) (reported_by change reporting log)
+    (rows_short link coded (reported_by change reporting log) links (all_tabled change reporting log))
 
 -- the first row
 fits_by : (b : Bool) (row : Row) (rows : List Row) (n room : ℕ) → nat_le n room ≡ b → n ≤ room → 0 < length (if b then row ∷ rows else [])
@@ -397,10 +397,10 @@ take_some : (n : ℕ) (fs : List Finding) → 0 < length fs → 0 < length (take
 take_some n [] some = some
 take_some n (f ∷ fs) some = omega arith
 
-pub some_row : (link : Option (List ℕ)) (reporting : Reporting) (log : Data) → AreLinks link → 0 < length (reported_of reporting log)
-    → 0 < length (in_table link (reported_of reporting log))
-some_row link reporting log links some =
-    let fs : List Finding = reported_of reporting log in
+pub some_row : (link : Option (List ℕ)) (change : Option GatedChange) (reporting : Reporting) (log : Data) → AreLinks link → 0 < length (reported_by change reporting log)
+    → 0 < length (in_table link (reported_by change reporting log))
+some_row link change reporting log links some =
+    let fs : List Finding = reported_by change reporting log in
     let count = length_listed fs in
-    first_fits link (take most_rows (listed fs)) links (take_tabled most_rows (listed fs) (listed_each IsTabled fs (all_tabled reporting log)))
+    first_fits link (take most_rows (listed fs)) links (take_tabled most_rows (listed fs) (listed_each IsTabled fs (all_tabled change reporting log)))
     (take_some 199 (listed fs) (omega (arith, some, count)))

@@ -19,15 +19,18 @@ use Rattle.sarif_findings.specs.declared.reporting.Reporting.{Reporting}
 use Rattle.sarif_findings.specs.CodeLaws.{HasCode, IsCode, IsSeenLine}
 use Rattle.sarif_findings.specs.CodeRows.{filled_line, if_filled, is_filled, one_line, without_spaces}
 use Rattle.sarif_findings.specs.Lookup.{descriptor_of, number_in, physical_location, position_in, position_number, rule_id}
-use Rattle.sarif_findings.specs.Reported.{finding_of, only_with, path_in, reported_of}
+use Rattle.sarif_findings.specs.Reported.{finding_of, only_with, path_in}
 use Rattle.sarif_findings.specs.RuleName.{most_of_name, name_in, shown_name}
 use Rattle.sarif_findings.specs.Shown.{is_concealed, kept, parted_signs, plain}
 use Rattle.sarif_findings.specs.ShownLaws.{are_seen, is_seen}
 use Rattle.sarif_findings.proofs.CharsBack.{char_back, chars_back}
 use Rattle.sarif_findings.proofs.CodesTold.{codes_told}
 use Rattle.sarif_findings.proofs.EachFinding.{each_finding}
-use Rattle.sarif_findings.proofs.ToldFindings.{IsTold, all_told}
+use Rattle.sarif_findings.proofs.ToldFindings.{IsTold}
+use Rattle.sarif_scope.specs.declared.gated.GatedChange.{GatedChange}
 use Rattle.sarif_shown.specs.FindingLaws.{HasAddress}
+use Rattle.sarif_shown.specs.ReportedInside.{reported_by}
+use Rattle.sarif_shown.proofs.FindingsInside.{each_inside, told_inside}
 use Rattle.sarif_shown.specs.Listed.{listed}
 use Rattle.sarif_shown.proofs.AddressSigns.{all_linked}
 use Rattle.sarif_shown.proofs.ListedMore.{listed_permutes}
@@ -196,7 +199,10 @@ all_facts (f ∷ fs) told address label code line = (
   all_facts fs told.1 address.1 label.1 code.1 line.1,
 )
 
-pub all_tabled : (reporting : Reporting) (log : Data) → AllByRecursion IsTabled (reported_of reporting log)
-all_tabled reporting log =
-    all_facts (reported_of reporting log) (all_told reporting log) (recursion_from_All HasAddress (reported_of reporting log) (all_linked reporting log)) (each_finding HasLabel reporting (finding_labelled reporting) log)
-    (codes_told reporting log) (each_finding HasLine reporting (finding_lined reporting) log)
+pub all_tabled : (change : Option GatedChange) (reporting : Reporting) (log : Data) → AllByRecursion IsTabled (reported_by change reporting log)
+all_tabled change reporting log =
+    let fs : List Finding = reported_by change reporting log in
+    all_facts fs (told_inside change reporting log) (recursion_from_All HasAddress fs (all_linked change reporting log))
+    (each_inside HasLabel change reporting log (each_finding HasLabel reporting (finding_labelled reporting) log))
+    (each_inside HasCode change reporting log (codes_told reporting log))
+    (each_inside HasLine change reporting log (each_finding HasLine reporting (finding_lined reporting) log))

@@ -6,11 +6,11 @@ use Rattle.std.specs.List.{count_by, ends_with}
 use Rattle.sarif_model.specs.Level.{level_name}
 use Rattle.sarif_counts.specs.declared.gate_verdict.Verdict.{Verdict}
 use Rattle.sarif_counts.specs.declared.gate_verdict.Verdict.TheVariants.{Pass, Fail}
-use Rattle.sarif_counts.specs.Hits.{verdict_of}
 use Rattle.sarif_findings.specs.declared.finding.Finding.{Finding}
 use Rattle.sarif_findings.specs.Finding.{spot_text}
 use Rattle.sarif_shown.specs.declared.escaping.Escaping.TheVariants.{Page}
 use Rattle.sarif_shown.specs.Escaped.{escaped}
+use Rattle.sarif_scope.specs.Told.{verdict_told}
 use Rattle.sarif_shown.specs.Facts.{Facts}
 use Rattle.sarif_shown.specs.Listed.{listed}
 use Rattle.sarif_shown.specs.TextReport.{result_line}
@@ -187,4 +187,4 @@ junit_document verdict findings =
 
 abbrev pub junit_of : Facts → List ℕ
 junit_of facts =
-    junit_document (verdict_of facts.count facts.policy) (listed facts.findings)
+    junit_document (verdict_told facts.change facts.count facts.policy) (listed facts.findings)

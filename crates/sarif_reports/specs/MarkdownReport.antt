@@ -8,18 +8,19 @@ use Rattle.sarif_model.specs.declared.kinds.State.TheVariants.{New, Unchanged, U
 use Rattle.sarif_model.specs.Level.{level_name}
 use Rattle.sarif_model.specs.State.{state_name}
 use Rattle.sarif_counts.specs.declared.gate_verdict.Verdict.{Verdict}
-use Rattle.sarif_counts.specs.Hits.{Count, hits_of, verdict_of}
+use Rattle.sarif_counts.specs.Hits.{Count}
 use Rattle.sarif_shown.specs.CountRow.{row_of, numbers_of}
 use Rattle.sarif_findings.specs.declared.finding.Finding.{Finding}
 use Rattle.sarif_shown.specs.declared.escaping.Escaping.TheVariants.{Markdown, Page}
 use Rattle.sarif_findings.specs.declared.code.Code.{Code}
 use Rattle.sarif_findings.specs.CodeRows.{one_line}
 use Rattle.sarif_findings.specs.Finding.{spot_text}
+use Rattle.sarif_scope.specs.Told.{hits_told, outside_told, verdict_told}
 use Rattle.sarif_shown.specs.Linked.{place_link}
 use Rattle.sarif_shown.specs.Escaped.{escaped}
 use Rattle.sarif_shown.specs.Facts.{Facts}
 use Rattle.sarif_shown.specs.Listed.{listed}
-use Rattle.sarif_shown.specs.Sentences.{accept_text, entries_text, gate_text, more_text, runs_text, unshown_text}
+use Rattle.sarif_shown.specs.Sentences.{accept_text, entries_text, gate_text, more_text, outside_text, runs_text, unshown_text}
 use Rattle.sarif_shown.specs.Unshown.{unshown_number}
 
 -- ---- strings
@@ -43,7 +44,7 @@ counts_table count =
     ++ (count_row Updated (count Updated)
     ++ count_row Absent (count Absent))))
 
--- ---- runs without results and unused entries
+-- ---- runs without results, unused entries, and results outside of a change
 
 -- a line, if there is a number to say something about
 abbrev pub line_if : ℕ → List ℕ → List ℕ
@@ -54,8 +55,10 @@ abbrev pub paragraph : List ℕ → List ℕ
 paragraph [] = []
 paragraph (b ∷ bs) = codes "\n" ++ (b ∷ bs)
 
-abbrev pub notes : ℕ → ℕ → List ℕ
-notes without unused = line_if without (runs_text without) ++ line_if unused (entries_text unused)
+abbrev pub notes : ℕ → ℕ → ℕ → List ℕ
+notes without unused outside =
+    line_if without (runs_text without) ++ (line_if unused (entries_text unused)
+    ++ line_if outside (outside_text outside))
 
 -- ---- links
 
@@ -188,9 +191,10 @@ last_lines unshown hits = paragraph (unshown_line unshown) ++ paragraph (accept_
 
 abbrev pub markdown_of : Facts → List ℕ
 markdown_of facts =
-    heading (verdict_of facts.count facts.policy) (hits_of facts.count facts.policy) facts.policy.max
+    heading (verdict_told facts.change facts.count facts.policy)
+    (hits_told facts.change facts.count facts.policy) facts.policy.max
     ++ (counts_table facts.count
-    ++ (paragraph (notes facts.without facts.unused)
+    ++ (paragraph (notes facts.without facts.unused (outside_told facts.change))
     ++ (results_table facts.link facts.findings
-    ++ last_lines (unshown_number facts.show facts.count facts.policy)
-    (hits_of facts.count facts.policy))))
+    ++ last_lines (unshown_number facts.change facts.show facts.count facts.policy)
+    (hits_told facts.change facts.count facts.policy))))

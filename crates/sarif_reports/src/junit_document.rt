@@ -12,8 +12,9 @@ use crate::junit_parts::{
 };
 use crate::junit_suites::{Suites, suites_of};
 use indexmap::IndexMap;
-use sarif_counts::{Verdict, verdict};
+use sarif_counts::Verdict;
 use sarif_findings::Finding;
+use sarif_scope::verdict_told;
 use sarif_shown::{ReportInput, list_findings};
 use std::alloc::{AllocError, Global};
 use std::hash::RandomState;
@@ -257,7 +258,7 @@ fn junit_document(
 pub fn junit_report(alloc: Global, told: &ReportInput<'_>) -> Result<String, AllocError>
     ensures { IfOk result (λ s. string_bytes s ≡ said.junit_of (facts_of told.now)) }
 {
-    let verdict = verdict(told.counts, told.policy);
+    let verdict = verdict_told(told.counts, told.policy, &told.change);
     let listed = list_findings(alloc, told.findings)?;
     junit_document(alloc, told.seed, verdict, listed.as_slice())
 }

@@ -1,5 +1,6 @@
 //! Laws of reports. Each law is the contract of a function that does nothing. A log may be hostile, so the laws
-//! cover any strings.
+//! cover any strings. Without a change they are on all results of the log that are shown, and with one on those inside
+//! of it.
 ghost use Rattle.std.specs.Prelude.{◌≡◌, ◌<◌, ◌≤◌, ◌+◌, ◌==◌, ◌^◌, ℕ, Bool, List, Option, true};
 ghost use Rattle.std.specs.Prelude.{[], Some, bytes_eq};
 ghost use Rattle.std.specs.Prelude.{codes, flat_map, length, nat_lt};
@@ -9,8 +10,8 @@ ghost use Rattle.json.specs.Json.{document};
 ghost use Rattle.serde_json.specs.Data.{Data, array};
 ghost use Rattle.serde_json.specs.Written.{outline};
 ghost use Rattle.sarif_model.specs.Run.{runs_of};
-ghost use Rattle.sarif_counts.specs.Hits.{hits_of, verdict_of};
-ghost use Rattle.sarif_counts.specs.CountOf.{count_of};
+ghost use Rattle.sarif_scope.specs.Counted.{hits_by, verdict_by};
+ghost use Rattle.sarif_scope.specs.declared.gated.GatedChange.{GatedChange};
 ghost use Rattle.sarif_findings.specs.declared.finding.Finding.{Finding};
 ghost use Rattle.sarif_shown.specs.declared.escaping.Escaping.TheVariants.{Markdown};
 ghost use Rattle.sarif_shown.specs.Escaped.{escaped};
@@ -19,12 +20,12 @@ ghost use Rattle.sarif_shown.specs.Facts.{Facts};
 ghost use Rattle.sarif_reports.specs.GitlabReport.{gitlab_of, hashed_texts, items_after};
 ghost use Rattle.sarif_findings.specs.declared.reporting.Reporting.{Reporting};
 ghost use Rattle.sarif_reports.specs.JunitLaws.{IsXmlText, cases_of, document_of, fails, names_after, occurrences};
-ghost use Rattle.sarif_reports.specs.MarkdownLaws.{AreLinks, AreSmall, have_bars};
+ghost use Rattle.sarif_reports.specs.MarkdownLaws.{AreLinks, AreSmall, have_bars, most_of};
 ghost use Rattle.sarif_reports.specs.MarkdownReport.{in_table, left_out, markdown_of, result_row};
 ghost use Rattle.sarif_reports.specs.MarkdownReport.{Row, row_text};
 ghost use Rattle.sarif_page.specs.HtmlAttributes.{attributes_in};
 ghost use Rattle.sarif_reports.specs.MarkdownTags.{has_row_marks, row_attributes, row_tags, tags_of};
-ghost use Rattle.sarif_findings.specs.Reported.{reported_of};
+ghost use Rattle.sarif_shown.specs.ReportedInside.{reported_by};
 
 /// Each mark of a string in Markdown is part of a `&#N;`: no string makes a cell, a link, emphasis or a tag.
 pub fn markdown_texts_hold_no_mark()
@@ -41,13 +42,15 @@ pub fn hashed_texts_differ()
 /// In Markdown the table of results has one line per row, and each line has eight bars: no log adds a line or a
 /// cell.
 pub fn markdown_rows_have_their_cells()
-    ensures bars { (link : Option (List ℕ)) (reporting : Reporting) (log : Data) → AreLinks link
+    ensures bars { (link : Option (List ℕ)) (change : Option GatedChange) (reporting : Reporting)
+        (log : Data) → AreLinks link
         → have_bars 8 0
-        (flat_map (row_text link) (in_table link (reported_of reporting log))) ≡ true }
-    ensures lines { (link : Option (List ℕ)) (reporting : Reporting) (log : Data) → AreLinks link
+        (flat_map (row_text link) (in_table link (reported_by change reporting log))) ≡ true }
+    ensures lines { (link : Option (List ℕ)) (change : Option GatedChange) (reporting : Reporting)
+        (log : Data) → AreLinks link
         → count_by (λ b. b == 10)
-        (flat_map (row_text link) (in_table link (reported_of reporting log)))
-        ≡ length (in_table link (reported_of reporting log)) }
+        (flat_map (row_text link) (in_table link (reported_by change reporting log)))
+        ≡ length (in_table link (reported_by change reporting log)) }
 {}
 
 /// In Markdown a reader of one row or more finds only the tags and attributes that are stated for them, for any strings
@@ -67,49 +70,53 @@ pub fn markdown_rows_have_their_tags()
 pub fn markdown_tables_count_all_results()
     ensures results { (link : Option (List ℕ)) (findings : List Finding) →
         length (in_table link findings) + length (left_out link findings) ≡ length findings }
-    ensures hits { (link : Option (List ℕ)) (reporting : Reporting) (log : Data) →
-        count_by (λ row. row.1.hit) (in_table link (reported_of reporting log))
-        + count_by (λ f. f.hit) (left_out link (reported_of reporting log))
-        ≡ hits_of (count_of (runs_of log)) reporting.policy }
-    ensures row { (link : Option (List ℕ)) (reporting : Reporting) (log : Data) → AreLinks link
-        → 0 < length (reported_of reporting log)
-        → 0 < length (in_table link (reported_of reporting log)) }
-    ensures few { (link : Option (List ℕ)) (coded : Bool) (reporting : Reporting) (log : Data)
+    ensures hits { (link : Option (List ℕ)) (change : Option GatedChange) (reporting : Reporting)
+        (log : Data) →
+        count_by (λ row. row.1.hit) (in_table link (reported_by change reporting log))
+        + count_by (λ f. f.hit) (left_out link (reported_by change reporting log))
+        ≡ hits_by change reporting.policy (runs_of log) }
+    ensures row { (link : Option (List ℕ)) (change : Option GatedChange) (reporting : Reporting)
+        (log : Data) → AreLinks link
+        → 0 < length (reported_by change reporting log)
+        → 0 < length (in_table link (reported_by change reporting log)) }
+    ensures few { (link : Option (List ℕ)) (coded : Bool) (change : Option GatedChange)
+        (reporting : Reporting) (log : Data)
         → AreLinks link → All (λ f. length (result_row link coded f) ≤ 48000)
-        (reported_of reporting log) }
+        (reported_by change reporting log) }
     ensures bytes { (link : Option (List ℕ)) (findings : List Finding) →
         length (flat_map (row_text link) (in_table link findings)) ≤ 60000 }
 {}
 
-/// A report in Markdown has at most 61,000 bytes, if its numbers have 32 bits: fewer than a comment may have.
+/// A report in Markdown has at most 61,000 bytes, or 61,100 with a change, if its numbers have 32 bits: fewer than a
+/// comment may have.
 pub fn markdown_reports_fit_into_comments()
-    ensures { (facts : Facts) → AreSmall facts → length (markdown_of facts) ≤ 61000 }
+    ensures { (facts : Facts) → AreSmall facts → length (markdown_of facts) ≤ most_of facts.change }
 {}
 
 /// Read as JSON, the report for GitLab is the array of its objects, for any strings: no log adds an object or a
 /// member.
 pub fn gitlab_reports_read_back()
-    ensures { (reporting : Reporting) (log : Data)
-        → document (gitlab_of (reported_of reporting log))
-        ≡ Some (outline (array (items_after [] (reported_of reporting log)))) }
+    ensures { (change : Option GatedChange) (reporting : Reporting) (log : Data)
+        → document (gitlab_of (reported_by change reporting log))
+        ≡ Some (outline (array (items_after [] (reported_by change reporting log)))) }
 {}
 
 /// The report in JUnit XML has one test case per reported result, and one if nothing is reported. There are as many
 /// failed and skipped ones as hits. One fails exactly if the verdict is fail. So no log adds or hides a test case.
 pub fn junit_cases_are_results()
-    ensures cases { (reporting : Reporting) (log : Data)
-        → length (reported_of reporting log) < 2 ^ 64
-        → occurrences (codes "<testcase ") (document_of reporting log)
-        ≡ cases_of (length (reported_of reporting log)) }
-    ensures hits { (reporting : Reporting) (log : Data)
-        → length (reported_of reporting log) < 2 ^ 64
-        → occurrences (codes "<failure ") (document_of reporting log)
-        + occurrences (codes "<skipped ") (document_of reporting log)
-        ≡ hits_of (count_of (runs_of log)) reporting.policy }
-    ensures verdict { (reporting : Reporting) (log : Data)
-        → length (reported_of reporting log) < 2 ^ 64
-        → nat_lt 0 (occurrences (codes "<failure ") (document_of reporting log))
-        ≡ fails (verdict_of (count_of (runs_of log)) reporting.policy) }
+    ensures cases { (change : Option GatedChange) (reporting : Reporting) (log : Data)
+        → length (reported_by change reporting log) < 2 ^ 64
+        → occurrences (codes "<testcase ") (document_of change reporting log)
+        ≡ cases_of (length (reported_by change reporting log)) }
+    ensures hits { (change : Option GatedChange) (reporting : Reporting) (log : Data)
+        → length (reported_by change reporting log) < 2 ^ 64
+        → occurrences (codes "<failure ") (document_of change reporting log)
+        + occurrences (codes "<skipped ") (document_of change reporting log)
+        ≡ hits_by change reporting.policy (runs_of log) }
+    ensures verdict { (change : Option GatedChange) (reporting : Reporting) (log : Data)
+        → length (reported_by change reporting log) < 2 ^ 64
+        → nat_lt 0 (occurrences (codes "<failure ") (document_of change reporting log))
+        ≡ fails (verdict_by change reporting.policy (runs_of log)) }
 {}
 
 /// No two test cases of a suite have the same name, for any results.
@@ -121,7 +128,7 @@ pub fn junit_names_differ()
 /// Each character of the report in JUnit XML is one of those that XML 1.0 allows. A report that was written is UTF-8,
 /// as each `String` is.
 pub fn junit_characters_are_allowed()
-    ensures { (reporting : Reporting) (log : Data)
-        → length (reported_of reporting log) < 2 ^ 64
-        → IsUtf8 (document_of reporting log) → IsXmlText (document_of reporting log) }
+    ensures { (change : Option GatedChange) (reporting : Reporting) (log : Data)
+        → length (reported_by change reporting log) < 2 ^ 64
+        → IsUtf8 (document_of change reporting log) → IsXmlText (document_of change reporting log) }
 {}

@@ -7,15 +7,17 @@ ghost use Rattle.sarif_counts.specs.Counts.{count_at};
 ghost use Rattle.sarif_shown.specs.CountRow.{row_begin, row_end};
 ghost use Rattle.sarif_shown.specs.Facts.{facts_of};
 ghost use Rattle.sarif_reports.specs.MarkdownReport as said;
-ghost use Rattle.sarif_shown.specs.Sentences.{entries_text, runs_text};
+ghost use Rattle.sarif_reports.specs.MarkdownLaws.{most_of};
+ghost use Rattle.sarif_shown.specs.Sentences.{entries_text, outside_text, runs_text};
 
-use sarif_counts::{Counts, Verdict, hits, verdict};
+use sarif_counts::{Counts, Verdict};
 use sarif_findings::Finding;
 use sarif_links::Template;
 use sarif_model::State;
+use sarif_scope::{hits_told, outside_told, verdict_told};
 use sarif_shown::{
     Escaping, ReportInput, accept_text, entries_text, gate_text, list_findings, more_text,
-    place_link, push_place, row_numbers, runs_text, unshown_number, unshown_text,
+    outside_text, place_link, push_place, row_numbers, runs_text, unshown_number, unshown_text,
 };
 use std::alloc::{AllocError, Global};
 
@@ -476,6 +478,18 @@ fn entries_line(alloc: Global, unused: u32) -> Result<String, AllocError>
     format!(in alloc; "{sentence}\n")
 }
 
+/// Returns the line on results outside of the change that would be hits, if there are any.
+fn outside_line(alloc: Global, outside: u32) -> Result<String, AllocError>
+    ensures { IfOk result
+        (λ s. string_bytes s ≡ said.line_if outside (outside_text outside)) }
+{
+    if outside == 0 {
+        return Ok(String::new(alloc));
+    }
+    let sentence = outside_text(alloc, outside)?;
+    format!(in alloc; "{sentence}\n")
+}
+
 /// The line on accepting the hits, if there are any.
 #[tactic(auto, unfolding(crate::specs::MarkdownReport::accept_line))]
 fn accept_line(alloc: Global, hits: u32) -> Result<String, AllocError>
@@ -521,14 +535,22 @@ fn push_accept(alloc: Global, text: &mut String, hits: u32) -> Result<(), AllocE
     Ok(())
 }
 
-/// Adds the lines on runs without results and on unused entries, if there are any.
-fn push_notes(alloc: Global, text: &mut String, without: u32, unused: u32) -> Result<(), AllocError>
+/// Adds the lines on runs without results, on unused entries and on results outside of the change, if there are any.
+fn push_notes(
+    alloc: Global,
+    text: &mut String,
+    without: u32,
+    unused: u32,
+    outside: u32,
+) -> Result<(), AllocError>
     ensures { OnOk result (string_bytes text.new
-        ≡ string_bytes text.old ++ said.paragraph (said.notes without unused)) }
+        ≡ string_bytes text.old ++ said.paragraph (said.notes without unused outside)) }
 {
     let mut notes = runs_line(alloc, without)?;
     let entries = entries_line(alloc, unused)?;
+    let others = outside_line(alloc, outside)?;
     notes.push_str(entries.as_str())?;
+    notes.push_str(others.as_str())?;
     push_paragraph(text, notes.as_str())?;
     Ok(())
 }
@@ -536,10 +558,11 @@ fn push_notes(alloc: Global, text: &mut String, without: u32, unused: u32) -> Re
 /// Returns the report for job summaries and comments on a change: the verdict, the counts, runs without results,
 /// and a table of the first listed results: at most 200, whose rows take at most 60,000 bytes. Rules link to their pages
 /// and places to their addresses; the rows of the first 20 hits have a line of code. The whole report has at
-/// most 61,000 bytes: fewer than a comment may have. Returns `AllocError` if memory for it runs out.
+/// most 61,000 bytes, or 61,100 if the gate checks a change: fewer than a comment may have. Returns `AllocError` if
+/// memory for it runs out.
 pub fn markdown_report(alloc: Global, told: &ReportInput<'_>) -> Result<String, AllocError>
     ensures text { IfOk result (λ s. string_bytes s ≡ said.markdown_of (facts_of told.now)) }
-    ensures short { IfOk result (λ s. length (string_bytes s) ≤ 61000) }
+    ensures short { IfOk result (λ s. length (string_bytes s) ≤ most_of told.now.change) }
 {
     let ReportInput {
         counts,
@@ -547,12 +570,14 @@ pub fn markdown_report(alloc: Global, told: &ReportInput<'_>) -> Result<String, 
         findings,
         ..
     } = *told;
-    let hits = hits(counts, policy);
-    let mut text = heading(alloc, verdict(counts, policy), hits, policy.max)?;
+    let hits = hits_told(counts, policy, &told.change);
+    let verdict = verdict_told(counts, policy, &told.change);
+    let mut text = heading(alloc, verdict, hits, policy.max)?;
     push_counts(alloc, &mut text, counts)?;
-    push_notes(alloc, &mut text, told.without, told.unused)?;
+    let outside = outside_told(&told.change);
+    push_notes(alloc, &mut text, told.without, told.unused, outside)?;
     push_results(alloc, &mut text, told.link, findings)?;
-    let unshown = unshown_number(told.show, counts, policy);
+    let unshown = unshown_number(told.show, counts, policy, &told.change);
     push_last(alloc, &mut text, unshown, hits)?;
     Ok(text)
 }

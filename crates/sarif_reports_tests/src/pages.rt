@@ -1,8 +1,10 @@
-//! The page under a policy that the command line can't give.
+//! The page under a policy that the command line can't give, and of a gate for one change.
+use sarif_change::Scope;
 use sarif_counts::Counts;
 use sarif_findings::Show;
 use sarif_options::{Policy, States};
 use sarif_page::html_report;
+use sarif_scope::ChangeFacts;
 use sarif_shown::ReportInput;
 use std::alloc::{AllocError, Global};
 use std::hash::RandomState;
@@ -14,6 +16,7 @@ fn empty_page<'a>(
     seed: RandomState,
     counts: &'a Counts,
     policy: &'a Policy,
+    change: Option<ChangeFacts>,
 ) -> Result<String, AllocError> {
     let told = ReportInput {
         counts,
@@ -24,6 +27,7 @@ fn empty_page<'a>(
         without: 0,
         unused: 0,
         life: None,
+        change,
         seed,
     };
     html_report(alloc, &told)
@@ -41,7 +45,27 @@ fn no_result_is_a_hit_if_no_state_counts(rt: HostRuntime) -> Result<(), Fail> {
         ..Policy::default()
     };
     let counts = Counts::new();
-    let page = empty_page(rt.alloc(), RandomState::new(&rt)?, &counts, &policy)?;
+    let page = empty_page(rt.alloc(), RandomState::new(&rt)?, &counts, &policy, None)?;
     assert!(rt; page.contains("<p>No state counts, so no result is a hit.</p>"));
+    Ok(())
+}
+
+#[test]
+fn a_change_is_in_the_reason_and_told_after_the_counts(rt: HostRuntime) -> Result<(), Fail> {
+    let facts = ChangeFacts {
+        files: 1,
+        lines: 1,
+        outside: 2,
+        unreported: 2,
+        scope: Scope::Files,
+    };
+    let (counts, policy) = (Counts::new(), Policy::default());
+    let seed = RandomState::new(&rt)?;
+    let page = empty_page(rt.alloc(), seed, &counts, &policy, Some(facts))?;
+    let reason = "of level error, in a file of the change, and not suppressed.</p>";
+    assert!(rt; page.contains(reason));
+    let outside =
+        "<p class=\"mind\">2 results outside the change would be hits.</p>\n</div>\n</header>";
+    assert!(rt; page.contains(outside));
     Ok(())
 }

@@ -12,7 +12,7 @@ use Rattle.sarif_request.specs.declared.together.Misfit.{Misfit}
 use Rattle.sarif_request.specs.declared.together.Misfit.TheVariants.{AcceptNeedsFile, PruneNeedsFile, FileNeedsChange, PlaceNeedsAccept, PruneNeedsEntries, ReasonNeedsAccept, RuleNeedsAccept, UntilIsNoDate, UntilIsPast, UntilNeedsAccept, UntilNeedsToday}
 use Rattle.sarif_request.specs.Command.{program}
 use Rattle.sarif_request.specs.Dates.{IsNotPast}
-use Rattle.sarif_request.specs.Together.{date_misfit, lacks, misfit_of, until_misfit, upkeep_misfit}
+use Rattle.sarif_request.specs.Together.{date_misfit, diff_misfit, lacks, misfit_of, until_misfit, upkeep_misfit}
 use Rattle.sarif_request.specs.Words.{GivesRequest, AreGiven, IsReadNumber, IsRenewal, choice_in, choosing_in, is_given, is_set}
 
 -- if nothing is wrong, the first test fails, and nothing is wrong after it
@@ -64,7 +64,9 @@ record HaveNeeded (given : GivenOptions) : Type 0 where
 
 module _ (given : GivenOptions) (none : misfit_of given ≡ None) where
   parts : (upkeep_misfit given ≡ None) × (until_misfit given ≡ None)
-  parts = both_none (upkeep_misfit given) (until_misfit given) none
+  parts =
+      let first = both_none (upkeep_misfit given) (option_or (until_misfit given) (diff_misfit given)) none in
+      (first.0, (both_none (until_misfit given) (diff_misfit given) first.1).0)
 
   upkeep : HaveNeeded given
   upkeep =

@@ -67,12 +67,14 @@ arguments =
     argument (codes "log") Logs
     ∷ argument (codes "baseline") Many
     ∷ argument (codes "suppress") Once
+    ∷ argument (codes "diff") Once
     ∷ argument (codes "today") (Number (pos first_day) (pos last_day))
     ∷ argument (codes "require-success") Flag
     ∷ argument (codes "allow-external-properties") Flag
     ∷ with_default (codes "error") (argument (codes "fail-on") Level)
     ∷ with_default (codes "new,updated") (argument (codes "states") Once)
     ∷ with_default (codes "0") (argument (codes "max") (Number (pos 0) (pos (2 ^ 32 - 1))))
+    ∷ argument (codes "diff-scope") Once
     ∷ with_default (codes "2") (argument (codes "matching") (Number (pos 2) (pos 3)))
     ∷ argument (codes "once") Flag
     ∷ argument (codes "ignore-fingerprint") Many

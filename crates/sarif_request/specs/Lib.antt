@@ -2,6 +2,7 @@ pub mod Command
 pub mod Dates
 pub mod Listing
 pub mod Names
+pub mod Scoping
 pub mod Showing
 pub mod Terminal
 pub mod Together

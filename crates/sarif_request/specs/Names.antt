@@ -6,7 +6,7 @@ use Rattle.clap.specs.Words.{Text}
 use Rattle.sarif_reports.specs.declared.report.Report.{Report}
 use Rattle.sarif_reports.specs.declared.report.Report.TheVariants as report
 use Rattle.sarif_request.specs.declared.clash.Clash.{Clash}
-use Rattle.sarif_request.specs.declared.clash.Clash.TheVariants.{RepeatedLog, RepeatedBaseline, Suppressions, Outputs, Log, Inputs}
+use Rattle.sarif_request.specs.declared.clash.Clash.TheVariants.{RepeatedLog, RepeatedBaseline, Streams, Suppressions, Diff, Outputs, Log, Inputs}
 use Rattle.sarif_request.specs.declared.request.Request.{Request}
 use Rattle.sarif_request.specs.declared.wanted.RequestedOutput.{RequestedOutput}
 
@@ -15,6 +15,7 @@ pub record Names : Type 0 where
   pub logs : List Text
   pub baselines : List Text
   pub suppress : Option Text
+  pub diff : Option Text
   pub out : Text
   pub reports : List (RequestedOutput Text)
 
@@ -23,6 +24,7 @@ names_of request = record {
   logs = request.logs.items;
   baselines = request.baselines.items;
   suppress = request.suppress;
+  diff = request.diff;
   out = request.out;
   reports = request.reports.items;
 }
@@ -56,6 +58,16 @@ replaces_suppressions names = option_map_or
     (λ name. bytes_eq names.out name || list_any (replaces_file name) names.reports)
     names.suppress false
 
+-- an output has the name of the diff; standard input has no name
+abbrev pub replaces_diff : Names → Bool
+replaces_diff names =
+    option_map_or (λ name. not (bytes_eq name standard) && is_among name (outputs_of names)) names.diff false
+
+-- both a log and the diff are standard input
+abbrev pub reads_twice : Names → Bool
+reads_twice names =
+    option_map_or (λ name. bytes_eq name standard && is_among name names.logs) names.diff false
+
 -- the first of these names that a later one repeats
 abbrev pub first_repeated : List Text → Option Text
 first_repeated [] = None
@@ -88,14 +100,16 @@ replaces_inputs names = list_any (replaces_input names) names.reports
 abbrev pub output_clash : Names → Option Clash
 output_clash names =
     if replaces_suppressions names then Some Suppressions else (
+    if replaces_diff names then Some Diff else (
     if have_one_name (outputs_of names) then Some Outputs else (
     if replaces_log names then Some Log else (
     if replaces_inputs names then Some Inputs else (
-    None))))
+    None)))))
 
 -- why the names clash, if they do
 abbrev pub clash_of : Names → Option Clash
 clash_of names =
     if have_one_name names.logs then Some RepeatedLog else (
     if have_one_name names.baselines then Some RepeatedBaseline else (
-    output_clash names))
+    if reads_twice names then Some Streams else (
+    output_clash names)))

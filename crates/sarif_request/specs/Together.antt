@@ -4,7 +4,7 @@ use Rattle.std.specs.Option.{option_or}
 use Rattle.sarif_entries.specs.Entries.{is_day}
 use Rattle.sarif_request.specs.declared.together.GivenOptions.{GivenOptions}
 use Rattle.sarif_request.specs.declared.together.Misfit.{Misfit}
-use Rattle.sarif_request.specs.declared.together.Misfit.TheVariants.{AcceptNeedsFile, PruneNeedsFile, FileNeedsChange, PruneNeedsEntries, ReasonNeedsAccept, PlaceNeedsAccept, RuleNeedsAccept, UnusedNeedsEntries, KnownWithAccept, AdoptNeedsKnown, UntilNeedsAccept, UntilNeedsToday, UntilIsNoDate, UntilIsPast}
+use Rattle.sarif_request.specs.declared.together.Misfit.TheVariants.{AcceptNeedsFile, PruneNeedsFile, FileNeedsChange, PruneNeedsEntries, ReasonNeedsAccept, PlaceNeedsAccept, RuleNeedsAccept, UnusedNeedsEntries, KnownWithAccept, AdoptNeedsKnown, UntilNeedsAccept, UntilNeedsToday, UntilIsNoDate, UntilIsPast, ScopeNeedsDiff, AbsentWithDiff}
 
 -- an option is given without the one that it needs
 abbrev pub lacks : Bool → Bool → Bool
@@ -40,6 +40,14 @@ until_misfit given =
     if lacks (is_some given.until) given.accept then Some UntilNeedsAccept else
     date_misfit given.until given.today
 
+-- why the options of the change don't go together, if they don't: no change has an absent result
+abbrev pub diff_misfit : GivenOptions → Option Misfit
+diff_misfit given =
+    if lacks given.diff_scope given.diff then Some ScopeNeedsDiff else (
+    if given.diff && given.absent then Some AbsentWithDiff else (
+    None))
+
 -- why options don't go together, if they don't
 abbrev pub misfit_of : GivenOptions → Option Misfit
-misfit_of given = option_or (upkeep_misfit given) (until_misfit given)
+misfit_of given =
+    option_or (upkeep_misfit given) (option_or (until_misfit given) (diff_misfit given))

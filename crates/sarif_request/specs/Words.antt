@@ -32,6 +32,9 @@ use Rattle.sarif_request.specs.declared.wanted.RequestedOutput.{RequestedOutput}
 use Rattle.sarif_request.specs.Command.{AreLevels, program}
 use Rattle.sarif_request.specs.Listing.{states_listed}
 use Rattle.sarif_request.specs.Names.{Names, clash_of}
+use Rattle.sarif_change.specs.declared.spots.Scope.{Scope}
+use Rattle.sarif_change.specs.declared.spots.Scope.TheVariants.{Lines}
+use Rattle.sarif_request.specs.Scoping.{scope_named}
 use Rattle.sarif_request.specs.Showing.{show_named}
 use Rattle.sarif_request.specs.Together.{misfit_of}
 
@@ -109,6 +112,10 @@ states_in rows =
 abbrev pub show_in : List Row → Option Show
 show_in rows = option_map_or show_named (first_of (codes "show") rows) (Some All)
 
+-- what is inside a change, if the name is one
+abbrev pub scope_in : List Row → Option Scope
+scope_in rows = option_map_or scope_named (first_of (codes "diff-scope") rows) (Some Lines)
+
 -- how places are linked, if the template is one; they aren't if there is none
 abbrev pub link_in : List Row → Option (Option Text)
 link_in rows =
@@ -179,12 +186,16 @@ pub record AreGiven (rows : List Row) (given : GivenOptions) : Type 0 where
   pub unused : given.unused ≡ is_given (codes "unused") rows
   pub known : given.known ≡ is_given (codes "known") rows
   pub adopt : given.adopt ≡ is_set (codes "adopt") rows
+  pub diff : given.diff ≡ is_given (codes "diff") rows
+  pub diff_scope : given.diff_scope ≡ is_given (codes "diff-scope") rows
+  pub absent : Some given.absent ≡ option_map (λ states. states.absent) (states_in rows)
 
 -- what was found under the arguments' names
 pub record AsksFor (rows : List Row) (request : Request) : Type 0 where
   pub logs : request.logs.items ≡ values_of (codes "log") rows
   pub baselines : request.baselines.items ≡ values_of (codes "baseline") rows
   pub suppress : request.suppress ≡ first_of (codes "suppress") rows
+  pub diff : request.diff ≡ first_of (codes "diff") rows
   pub out : request.out ≡ unwrap_or (first_of (codes "out") rows) []
   pub reports : request.reports.items ≡ reports_in rows
   pub roots : request.roots.items ≡ values_of (codes "root") rows
@@ -204,6 +215,8 @@ pub record AsksFor (rows : List Row) (request : Request) : Type 0 where
   pub matching : IsVersion (one_of (codes "matching") rows) request.options.checks.matching
   pub once : request.options.checks.once ≡ is_set (codes "once") rows
   pub ignored : request.options.checks.ignored ≡ values_of (codes "ignore-fingerprint") rows
+  pub scope : scope_in rows ≡ Some request.options.checks.scope
+  pub roots_of_uris : request.options.checks.roots ≡ values_of (codes "root") rows
   pub workers : (n : ℕ) × IsReadOr 1 (one_of (codes "workers") rows) n
       × (request.options.workers ≡ in_range n)
   pub fail_on : request.options.policy.fail_on ≡ fail_on_in rows
@@ -216,6 +229,7 @@ names_in rows = record {
   logs = values_of (codes "log") rows;
   baselines = values_of (codes "baseline") rows;
   suppress = first_of (codes "suppress") rows;
+  diff = first_of (codes "diff") rows;
   out = unwrap_or (first_of (codes "out") rows) [];
   reports = reports_in rows;
 }
@@ -242,6 +256,10 @@ HaveNoStates app words = (fault_of app words ≡ []) × (states_in (matches_of a
 abbrev pub HaveNoShow : App → List Text → Type 0
 HaveNoShow app words = (fault_of app words ≡ []) × (show_in (matches_of app words) ≡ None)
 
+-- the arguments are valid, but what is inside a change has no name
+abbrev pub HaveNoScope : App → List Text → Type 0
+HaveNoScope app words = (fault_of app words ≡ []) × (scope_in (matches_of app words) ≡ None)
+
 -- the arguments are valid, but the template of links is none
 abbrev pub HaveNoTemplate : App → List Text → Type 0
 HaveNoTemplate app words =
@@ -259,14 +277,14 @@ abbrev pub IsFaultOf : List Text → WordsFault → Type 0
 IsFaultOf words (Usage text) = (levels : Bor (List (Bor Text))) × AreLevels levels
     × (((k : ErrorKind) × IsAmong k (fault_of (program levels) words) × (¬ IsAsked k))
     ⊎ (HaveNoStates (program levels) words ⊎ (HaveNoShow (program levels) words
-    ⊎ (HaveNoTemplate (program levels) words
-    ⊎ (HaveMisfit (program levels) words ⊎ HaveClash (program levels) words)))))
+    ⊎ (HaveNoScope (program levels) words ⊎ (HaveNoTemplate (program levels) words
+    ⊎ (HaveMisfit (program levels) words ⊎ HaveClash (program levels) words))))))
 IsFaultOf words (Help text) = (levels : Bor (List (Bor Text))) × AreLevels levels
     × (k : ErrorKind) × IsAmong k (fault_of (program levels) words) × IsAsked k
 IsFaultOf words OutOfMemory = ⊤
 
--- a request is returned only if the arguments are valid, they list states, name what reports show and link places by a
--- template if they do, their options go together and no names in them clash, and it is what they request
+-- a request is returned only if the arguments are valid, list states, name what reports show and what is inside a
+-- change, link places by a template if they do, their options go together, no names clash, and it is what they request
 abbrev pub GivesRequest : List Text → Result Request WordsFault → Type 0
 GivesRequest words (Ok request) = (levels : Bor (List (Bor Text))) × AreLevels levels
     × (fault_of (program levels) words ≡ []) × AsksFor (matches_of (program levels) words) request

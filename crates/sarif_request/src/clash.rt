@@ -18,8 +18,12 @@ pub enum Clash {
     RepeatedLog,
     /// Two baselines have the same name.
     RepeatedBaseline,
+    /// A log and the diff are standard input.
+    Streams,
     /// An output would overwrite the suppression file.
     Suppressions,
+    /// An output would overwrite the diff.
+    Diff,
     /// Two outputs have the same name.
     Outputs,
     /// The merged log would overwrite a log.
@@ -49,7 +53,12 @@ impl Clash {
         match self {
             Clash::RepeatedLog => repeated_log_told(alloc, request),
             Clash::RepeatedBaseline => repeated_baseline_told(alloc, request),
+            Clash::Streams => String::from_str(
+                alloc,
+                "standard input (-) can be only one of the logs and --diff",
+            ),
             Clash::Suppressions => suppressions_told(alloc, request),
+            Clash::Diff => diff_told(alloc, request),
             Clash::Outputs => outputs_told(alloc, request),
             Clash::Log => log_told(alloc, request),
             Clash::Inputs => inputs_told(alloc, request),
@@ -117,6 +126,24 @@ fn suppressions_told(alloc: Global, request: &Request) -> Result<String, AllocEr
         }
     }
     format!(in alloc; "--{option} would overwrite the suppression file {name}")
+}
+
+/// Names the first output that would overwrite the diff.
+fn diff_told(alloc: Global, request: &Request) -> Result<String, AllocError> {
+    let name = match &request.diff {
+        Some(name) => name.as_str(),
+        None => "",
+    };
+    let mut option = "out";
+    if request.out.as_str() != name {
+        for wanted in &request.reports {
+            if wanted.to.as_str() == name {
+                option = wanted.report.name();
+                break;
+            }
+        }
+    }
+    format!(in alloc; "--{option} would overwrite the diff {name}")
 }
 
 /// Names the first two outputs with one name.
@@ -194,6 +221,8 @@ pub fn clash_of(alloc: Global, request: &Request) -> Result<Option<Clash>, Alloc
         Ok(Some(Clash::RepeatedLog))
     } else if have_repeats(alloc, request, &request.baselines)? {
         Ok(Some(Clash::RepeatedBaseline))
+    } else if reads_twice(request) {
+        Ok(Some(Clash::Streams))
     } else {
         Ok(output_clash(request))
     }
@@ -212,6 +241,8 @@ fn output_clash(request: &Request) -> Option<Clash>
 {
     if replaces_suppressions(request) {
         Some(Clash::Suppressions)
+    } else if replaces_diff(request) {
+        Some(Clash::Diff)
     } else if share_a_name(request) {
         Some(Clash::Outputs)
     } else if replaces_log(request) {
@@ -231,6 +262,39 @@ fn replaces_suppressions(request: &Request) -> bool
         Some(name) => {
             let name = name.as_str();
             request.out.as_str() == name || one_replaces(name, request.reports.as_slice())
+        }
+        None => false,
+    }
+}
+
+/// Returns whether an output has the name of the diff.
+fn replaces_diff(request: &Request) -> bool
+    ensures { result ≡ said.replaces_diff (said.names_of request.now) }
+{
+    match &request.diff {
+        Some(name) => {
+            let name = name.as_str();
+            name != STANDARD && is_output(request, name)
+        }
+        None => false,
+    }
+}
+
+/// Returns whether an output has this name.
+fn is_output(request: &Request, name: &str) -> bool
+    ensures { result ≡ said.is_among name.now (said.outputs_of (said.names_of request.now)) }
+{
+    request.out.as_str() == name || is_among(name, request.reports.as_slice())
+}
+
+/// Returns whether both a log and the diff are standard input.
+fn reads_twice(request: &Request) -> bool
+    ensures { result ≡ said.reads_twice (said.names_of request.now) }
+{
+    match &request.diff {
+        Some(name) => {
+            let is_log = request.logs.contains(name);
+            name.as_str() == STANDARD && is_log
         }
         None => false,
     }
@@ -261,7 +325,7 @@ fn share_a_name(request: &Request) -> bool
     is_among(request.out.as_str(), reports) || have_one_name(reports)
 }
 
-/// Whether one of the reports has this name.
+/// Returns whether one of the reports has this name.
 pub(crate) fn is_among(name: &str, reports: &[RequestedOutput<Text>]) -> bool
     ensures { result ≡ said.is_among name.now (map (λ report. report.to) reports.now) }
 {

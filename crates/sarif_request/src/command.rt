@@ -20,17 +20,19 @@ Merge SARIF 2.1.0 logs, compare their results with baselines, and fail if there 
 A hit is an active result with a state of --states and a level at or above that of --fail-on.
 By default the states are new and updated. A result is new if it matches no baseline result, updated
 if it differs from the baseline result that it matches, and unchanged if it does not. A baseline
-result that no current result matches is absent. A result is active unless it is suppressed.";
+result that no current result matches is absent. A result is active unless it is suppressed. With
+--diff, only results inside the change are hits.";
 
 const AFTER: &str = "\
 Without arguments, the program reads one log from standard input, and writes the merged log to
 standard output and the summary to standard error.
 
-No two logs, no two baselines and no two outputs may have the same name. At most one output is
-standard output. If it is that of --out, --suppress-out or --known, the summary goes to standard
-error. No output may have the name of the suppression file, of a log or of a baseline. There are
-three exceptions: --suppress-out may have the name of --suppress, --known that of the only
---baseline, and --out that of a --baseline.
+No two logs, no two baselines and no two outputs may have the same name. At most one of the logs and
+--diff is standard input. At most one output is standard output. If it is that of --out,
+--suppress-out or --known, the summary goes to standard error. No output may have the name of the
+suppression file, of the diff, of a log or of a baseline. There are three exceptions:
+--suppress-out may have the name of --suppress, --known that of the only --baseline, and --out that
+of a --baseline.
 
 Exit status:
   0  the gate passes

@@ -9,6 +9,7 @@ mod listing;
 mod option_rows;
 mod repeated;
 mod request;
+mod scoping;
 mod showing;
 mod terminal;
 mod together;

@@ -80,7 +80,7 @@ pub fn is_date(kind: OptionKind) -> bool {
     kind == DATE
 }
 
-static ROWS: [OptionRow; 27] = [
+static ROWS: [OptionRow; 29] = [
     OptionRow {
         id: "log",
         value: "LOG",
@@ -104,6 +104,15 @@ static ROWS: [OptionRow; 27] = [
         value: "FILE",
         help: "JSON file of accepted findings (suppressions), each with a reason\n\
             and an optional expiry date",
+        group: Group::Inputs,
+        kind: OptionKind::Once,
+        default: None,
+    },
+    OptionRow {
+        id: "diff",
+        value: "FILE",
+        help: "Diff of the change, as git diff writes it: only results inside it\n\
+            can be hits, and only they are reported; - is standard input",
         group: Group::Inputs,
         kind: OptionKind::Once,
         default: None,
@@ -160,6 +169,15 @@ static ROWS: [OptionRow; 27] = [
         group: Group::Gate,
         kind: OptionKind::Number(0, u32::MAX as i64),
         default: Some("0"),
+    },
+    OptionRow {
+        id: "diff-scope",
+        value: "SCOPE",
+        help: "What is inside the change of --diff: results on changed lines, or in\n\
+            changed files [default: lines] [possible values: lines, files]",
+        group: Group::Gate,
+        kind: OptionKind::Once,
+        default: None,
     },
     OptionRow {
         id: "matching",

@@ -17,6 +17,8 @@ pub struct Request {
     pub baselines: Vec<Text>,
     /// The suppression file.
     pub suppress: Option<Text>,
+    /// The diff of the change that the gate checks; `-` is standard input.
+    pub diff: Option<Text>,
     /// Where the merged log goes; `-` is standard output.
     pub out: Text,
     /// The other outputs that were requested, in the order of `Report::ALL`, with the names of their files; `-` is

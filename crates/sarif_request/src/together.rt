@@ -31,6 +31,12 @@ pub struct GivenOptions {
     pub known: bool,
     /// Whether new hits become known too.
     pub adopt: bool,
+    /// The diff.
+    pub diff: bool,
+    /// What is inside the change of the diff.
+    pub diff_scope: bool,
+    /// Whether absent results may be hits.
+    pub absent: bool,
 }
 
 /// Why options don't go together.
@@ -64,6 +70,10 @@ pub enum Misfit {
     UntilIsNoDate,
     /// The expiry date is before today's date.
     UntilIsPast,
+    /// There is no change.
+    ScopeNeedsDiff,
+    /// No change has an absent result.
+    AbsentWithDiff,
 }
 
 impl Misfit {
@@ -87,6 +97,10 @@ impl Misfit {
                 "invalid value for '--until <YYYYMMDD>': expected a date as YYYYMMDD, for example \
                  20251128",
             Misfit::UntilIsPast => "the date of --until is before the date of --today",
+            Misfit::ScopeNeedsDiff => "--diff-scope needs --diff",
+            Misfit::AbsentWithDiff =>
+                "--states with absent and --diff cannot be used together: no change has an absent \
+                 result",
         }
     }
 }
@@ -95,7 +109,22 @@ impl Misfit {
 pub(crate) fn misfit_of(given: &GivenOptions) -> Option<Misfit>
     ensures { result ≡ said.misfit_of given.now }
 {
-    upkeep_misfit(given).or(until_misfit(given))
+    upkeep_misfit(given)
+        .or(until_misfit(given))
+        .or(diff_misfit(given))
+}
+
+/// Returns why the options of the change don't go together, or `None` if they do.
+fn diff_misfit(given: &GivenOptions) -> Option<Misfit>
+    ensures { result ≡ said.diff_misfit given.now }
+{
+    if given.diff_scope && !given.diff {
+        Some(Misfit::ScopeNeedsDiff)
+    } else if given.diff && given.absent {
+        Some(Misfit::AbsentWithDiff)
+    } else {
+        None
+    }
 }
 
 /// Returns why the options of the outputs for later merges don't go together, or `None` if they do.

@@ -6,7 +6,7 @@ ghost use Rattle.sarif_model.specs.Level.{level_named};
 ghost use Rattle.sarif_options.specs.Policy.{default_policy};
 ghost use Rattle.sarif_request.specs.Words.{words_status, ReportsError, IsAsked, AsksFor, GivesRequest};
 ghost use Rattle.sarif_request.specs.Words.{IsReadNumber, IsReadOr, IsUsageOrOutOfMemory, IsVersion};
-ghost use Rattle.sarif_request.specs.Words.{fail_on_in, is_set, link_in, reports_in, show_in, states_in};
+ghost use Rattle.sarif_request.specs.Words.{fail_on_in, is_set, link_in, reports_in, scope_in, show_in, states_in};
 ghost use Rattle.sarif_request.specs.Words.{values_of, AreGiven, IsRenewal, is_given, known_in, wanted_if};
 ghost use Rattle.sarif_links.specs.Template.{template_of};
 ghost use Rattle.sarif_reports.specs.Report.{report_name};
@@ -18,11 +18,13 @@ use crate::command::{command, with_file_row};
 use crate::expected::sentence_with_expected;
 use crate::listing::states_of;
 use crate::request::Request;
+use crate::scoping::scope_named;
 use crate::showing::show_named;
 use crate::together::{GivenOptions, misfit_of};
 use crate::wanted::RequestedOutput;
 use clap::ArgMatches;
 use clap::error::ErrorKind;
+use sarif_change::Scope;
 use sarif_choice::{Choice, Choosing};
 use sarif_evidence::MatchingVersion;
 use sarif_findings::Show;
@@ -98,14 +100,23 @@ pub fn read_words(alloc: Global, seed: RandomState, words: &[String]) -> Result<
             let Some(show) = named_show(&matches) else {
                 return Err(usage_of(told_of(alloc, NO_SHOW)));
             };
+            let Some(scope) = named_scope(&matches) else {
+                return Err(usage_of(told_of(alloc, NO_SCOPE)));
+            };
             let linked = named_link(alloc, &matches)?;
             let Some(link) = linked else {
                 return Err(usage_of(told_of(alloc, NO_TEMPLATE)));
             };
-            if let Some(misfit) = misfit_of(&given_of(&matches)) {
+            if let Some(misfit) = misfit_of(&given_of(&matches, states)) {
                 return Err(usage_of(told_of(alloc, misfit.sentence())));
             }
-            let request = request_of(alloc, seed, &matches, states, show, link)?;
+            let read = ReadValues {
+                states,
+                show,
+                scope,
+                link,
+            };
+            let request = request_of(alloc, seed, &matches, read)?;
             let found = clash_of(alloc, &request)?;
             if let Some(clash) = found {
                 return Err(usage_of(told_clash(alloc, clash, &request, words)));
@@ -122,6 +133,9 @@ const NO_STATES: &str = "invalid value for '--states <LIST>': expected new, upda
 
 /// What is wrong with a name of what reports show.
 const NO_SHOW: &str = "invalid value for '--show <WHICH>': expected hits or all";
+
+/// What is wrong with a name of what is inside a change.
+const NO_SCOPE: &str = "invalid value for '--diff-scope <SCOPE>': expected lines or files";
 
 /// What is wrong with a template of links.
 const NO_TEMPLATE: &str = "invalid value for '--link <TEMPLATE>': expected https:// or http://, a \
@@ -182,31 +196,46 @@ fn told_of(alloc: Global, sentence: &str) -> Result<Text, AllocError> {
     Text::from_string(text)
 }
 
+/// The values of arguments that are read before the request is made.
+#[derive(Drop)]
+struct ReadValues {
+    states: States,
+    show: Show,
+    scope: Scope,
+    link: Option<Template>,
+}
+
 /// Returns the request. The ranges of the numbers were checked with the arguments.
 #[tactic(auto, using(crate::proofs::Rows::first_in_rows))]
 fn request_of(
     alloc: Global,
     seed: RandomState,
     matches: &ArgMatches<'_>,
-    states: States,
-    show: Show,
-    link: Option<Template>,
+    read: ReadValues,
 ) -> Result<Request, AllocError>
-    requires listed { states_in (rows_of (found_of matches.now)) ≡ Some states }
-    requires named { show_in (rows_of (found_of matches.now)) ≡ Some show }
-    requires linked { link_in (rows_of (found_of matches.now)) ≡ Some link }
+    requires listed { states_in (rows_of (found_of matches.now)) ≡ Some read.states }
+    requires named { show_in (rows_of (found_of matches.now)) ≡ Some read.show }
+    requires scoped { scope_in (rows_of (found_of matches.now)) ≡ Some read.scope }
+    requires linked { link_in (rows_of (found_of matches.now)) ≡ Some read.link }
     ensures { IfOk result (AsksFor (rows_of (found_of matches.now))) }
 {
+    let ReadValues {
+        states,
+        show,
+        scope,
+        link,
+    } = read;
     let logs = names_of(alloc, matches, "log")?;
     let baselines = names_of(alloc, matches, "baseline")?;
     let suppress = name_of(alloc, matches, "suppress")?;
+    let diff = name_of(alloc, matches, "diff")?;
     let out = text_in(alloc, matches, "out")?;
     let reports = reports_of(alloc, matches)?;
     let roots = names_of(alloc, matches, "root")?;
     let upkeep = upkeep_of(alloc, matches)?;
     let choice = choice_of(alloc, matches)?;
     let today = number_of(matches, "today");
-    let checks = checks_of(alloc, matches)?;
+    let checks = checks_of(alloc, matches, scope)?;
     let options = Options {
         policy: policy_of(matches, states),
         checks,
@@ -220,6 +249,7 @@ fn request_of(
         logs,
         baselines,
         suppress,
+        diff,
         out,
         reports,
         roots,
@@ -305,7 +335,8 @@ fn choosing_of(alloc: Global, matches: &ArgMatches<'_>) -> Result<Choosing, Allo
 }
 
 /// Returns which options are given of those that need each other.
-fn given_of(matches: &ArgMatches<'_>) -> GivenOptions
+fn given_of(matches: &ArgMatches<'_>, states: States) -> GivenOptions
+    requires { states_in (rows_of (found_of matches.now)) ≡ Some states }
     ensures { AreGiven (rows_of (found_of matches.now)) result }
 {
     GivenOptions {
@@ -321,6 +352,9 @@ fn given_of(matches: &ArgMatches<'_>) -> GivenOptions
         unused: is_given(matches, "unused"),
         known: is_given(matches, "known"),
         adopt: is_set(matches, "adopt"),
+        diff: is_given(matches, "diff"),
+        diff_scope: is_given(matches, "diff-scope"),
+        absent: states.absent,
     }
 }
 
@@ -426,7 +460,7 @@ fn number_of(matches: &ArgMatches<'_>, id: &str) -> Option<u32>
 }
 
 /// What is required of runs, and what is compared of their results.
-fn checks_of(alloc: Global, matches: &ArgMatches<'_>) -> Result<Checks, AllocError>
+fn checks_of(alloc: Global, matches: &ArgMatches<'_>, scope: Scope) -> Result<Checks, AllocError>
     ensures require_success { IfOk result (λ checks. checks.require_success
         ≡ is_set (codes "require-success") (rows_of (found_of matches.now))) }
     ensures allow_external { IfOk result (λ checks. checks.allow_external
@@ -437,14 +471,20 @@ fn checks_of(alloc: Global, matches: &ArgMatches<'_>) -> Result<Checks, AllocErr
         ≡ is_set (codes "once") (rows_of (found_of matches.now))) }
     ensures ignored { IfOk result (λ checks. checks.ignored
         ≡ values_of (codes "ignore-fingerprint") (rows_of (found_of matches.now))) }
+    ensures scope { IfOk result (λ checks. checks.scope ≡ scope) }
+    ensures roots { IfOk result (λ checks. checks.roots
+        ≡ values_of (codes "root") (rows_of (found_of matches.now))) }
 {
     let ignored = values_of(alloc, matches, "ignore-fingerprint")?;
+    let removed = values_of(alloc, matches, "root")?;
     Ok(Checks {
         require_success: is_set(matches, "require-success"),
         allow_external: is_set(matches, "allow-external-properties"),
         matching: matching_of(matches),
         once: is_set(matches, "once"),
         ignored,
+        scope,
+        roots: removed,
     })
 }
 
@@ -522,6 +562,17 @@ fn named_show(matches: &ArgMatches<'_>) -> Option<Show>
     match matches.get_str("show") {
         Some(name) => show_named(name),
         None => Some(Show::All),
+    }
+}
+
+/// Returns what is inside a change, or `None` if it has no such name.
+#[tactic(auto, using(crate::proofs::Rows::first_in_rows))]
+fn named_scope(matches: &ArgMatches<'_>) -> Option<Scope>
+    ensures { result ≡ scope_in (rows_of (found_of matches.now)) }
+{
+    match matches.get_str("diff-scope") {
+        Some(name) => scope_named(name),
+        None => Some(Scope::Lines),
     }
 }
 

@@ -1,4 +1,5 @@
 //! What arguments request.
+use sarif_change::Scope;
 use sarif_evidence::MatchingVersion;
 use sarif_findings::Show;
 use sarif_model::{Level, Text};
@@ -213,6 +214,50 @@ fn whether_copies_are_counted_is_read(rt: HostRuntime) -> Result<(), Fail> {
 }
 
 #[test]
+fn the_diff_and_its_scope_are_read(rt: HostRuntime) -> Result<(), Fail> {
+    for (line, diff, scope) in [
+        ("a --out o", None, Scope::Lines),
+        ("a --out o --diff -", Some("-"), Scope::Lines),
+        (
+            "a --out o --diff d --diff-scope lines",
+            Some("d"),
+            Scope::Lines,
+        ),
+        (
+            "a --out - --diff d --diff-scope=files",
+            Some("d"),
+            Scope::Files,
+        ),
+    ] {
+        let request = accepted(&rt, line)?;
+        assert_eq!(rt; request.diff.as_ref().map(Text::as_str), diff);
+        assert_eq!(rt; request.options.checks.scope, scope);
+    }
+    Ok(())
+}
+
+#[test]
+fn what_is_wrong_with_a_diff_is_told(rt: HostRuntime) -> Result<(), Fail> {
+    for (line, told) in [
+        (
+            "a --out o --diff d --diff-scope file",
+            "invalid value for '--diff-scope <SCOPE>': expected lines or files",
+        ),
+        ("a --out o --diff-scope files", "--diff-scope needs --diff"),
+        (
+            "a --out o --states new,absent --diff d",
+            "--states with absent and --diff cannot be used together: no change has an absent \
+             result",
+        ),
+        // What options need comes before names that clash.
+        ("a --out a --diff-scope files", "--diff-scope needs --diff"),
+    ] {
+        expect_usage(&rt, line, told)?;
+    }
+    Ok(())
+}
+
+#[test]
 fn each_ignored_name_is_read(rt: HostRuntime) -> Result<(), Fail> {
     let line =
         "--ignore-fingerprint f/v1 a --out o --ignore-fingerprint= --ignore-fingerprint f/v1";
@@ -364,6 +409,18 @@ fn wrong_words_are_usage(rt: HostRuntime) -> Result<(), Fail> {
         "a --out o --show hits,all",
         "a --out o --show hits --show hits",
         "a --out o --states",
+        "a --out o --diff",
+        "a --out o --diff d --diff e",
+        "a --out o --diff-scope lines",
+        "a --out o --diff d --diff-scope",
+        "a --out o --diff d --diff-scope=",
+        "a --out o --diff d --diff-scope line",
+        "a --out o --diff d --diff-scope Lines",
+        "a --out o --diff d --diff-scope lines,files",
+        "a --out o --diff d --diff-scope lines --diff-scope lines",
+        "a --out o --diff d --states absent",
+        "a --out o --diff d --states new,absent",
+        "- --out o --diff -",
     ] {
         match read(&rt, line)? {
             Err(fault) => {
@@ -476,6 +533,24 @@ fn names_that_clash_are_usage(rt: HostRuntime) -> Result<(), Fail> {
             "a --out o --baseline b --html b",
             "--html would overwrite the baseline b",
         ),
+        ("a --out d --diff d", "--out would overwrite the diff d"),
+        (
+            "a --out o --text t --html d --diff d",
+            "--html would overwrite the diff d",
+        ),
+        (
+            "a --out o --baseline d --known d --diff d",
+            "--known would overwrite the diff d",
+        ),
+        // The suppression file comes first, and two outputs come later.
+        (
+            "a --out s --text s --suppress s --diff s",
+            "--out would overwrite the suppression file s",
+        ),
+        (
+            "a --out o --text d --html d --diff d",
+            "--text would overwrite the diff d",
+        ),
     ] {
         assert!(rt; usage_in(&rt, line)?.contains(told), "{line}");
     }
@@ -521,6 +596,14 @@ fn a_name_that_is_passed_twice_is_usage(rt: HostRuntime) -> Result<(), Fail> {
             "the baseline b is passed twice",
         ),
         ("a a --out s --suppress s", "the log a is passed twice"),
+        (
+            "a - --out o --diff -",
+            "standard input (-) can be only one of the logs and --diff",
+        ),
+        (
+            "- --out s --suppress s --diff=-",
+            "standard input (-) can be only one of the logs and --diff",
+        ),
     ] {
         expect_usage(&rt, line, told)?;
     }
@@ -577,6 +660,15 @@ fn names_that_may_stand_together_do(rt: HostRuntime) -> Result<(), Fail> {
         "a --out o --text O",
         // The root is not a file name.
         "a --out o --text t --root t",
+        // Standard input is the diff or a log, and standard output is another stream.
+        "a --out - --diff -",
+        "a --out o --text - --diff -",
+        "- --out o --diff d",
+        // As a baseline and as a suppression file, - is a file.
+        "a --baseline - --suppress - --out o --diff -",
+        // The diff may be an input.
+        "d --baseline d --out o --diff d",
+        "a --out ./d --diff d",
     ] {
         accepted(&rt, line)?;
     }

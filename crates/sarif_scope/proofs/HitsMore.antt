@@ -25,7 +25,7 @@ use Rattle.sarif_options.specs.declared.policy.Policy.{Policy}
 use Rattle.sarif_scope.specs.Counted.{count_inside, count_kept, hits_by, outside_of, verdict_by, verdict_on}
 use Rattle.sarif_scope.specs.Gate.{facts_of, gate_by, gate_of_change}
 use Rattle.sarif_scope.specs.Summary.{summary_by, summary_of_change}
-use Rattle.sarif_scope.specs.Told.{facts_by, gate_told, summary_told, verdict_told}
+use Rattle.sarif_scope.specs.Told.{facts_by, gate_told, hits_told, summary_told, verdict_told}
 use Rattle.sarif_scope.specs.Inside.{artifacts_in, is_outside_of, is_inside}
 use Rattle.sarif_scope.specs.declared.gated.GatedChange.{GatedChange}
 
@@ -123,6 +123,11 @@ pub gate_from : (change : Option GatedChange) (runs : List Data) (policy : Polic
 gate_from None runs policy without unused = refl
 gate_from (Some change) runs policy without unused =
     ap (λ h. gate_of_change (count_of runs) h (facts_of change policy runs) policy without unused) (left_by change runs policy)
+
+pub hits_from : (change : Option GatedChange) (runs : List Data) (policy : Policy)
+    → hits_by change policy runs ≡ hits_told (facts_by change policy runs) (count_of runs) policy
+hits_from None runs policy = refl
+hits_from (Some change) runs policy = left_by change runs policy
 
 pub verdict_from : (change : Option GatedChange) (runs : List Data) (policy : Policy)
     → verdict_by change policy runs ≡ verdict_told (facts_by change policy runs) (count_of runs) policy

@@ -25,6 +25,16 @@ gate_told None count policy without unused = gate_of count policy without unused
 gate_told (Some facts) count policy without unused =
     gate_of_change count (hits_left facts count policy) facts policy without unused
 
+-- the hits, with a change or without one
+abbrev pub hits_told : Option ChangeFacts → Count → Policy → ℕ
+hits_told None count policy = hits_of count policy
+hits_told (Some facts) count policy = hits_left facts count policy
+
+-- how many results would be hits without the change, and aren't inside: none without one
+abbrev pub outside_told : Option ChangeFacts → ℕ
+outside_told None = 0
+outside_told (Some facts) = facts.outside
+
 abbrev pub verdict_told : Option ChangeFacts → Count → Policy → Verdict
 verdict_told None count policy = verdict_of count policy
 verdict_told (Some facts) count policy = verdict_on (hits_left facts count policy) policy

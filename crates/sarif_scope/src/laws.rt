@@ -15,7 +15,7 @@ ghost use Rattle.sarif_scope.specs.Counted.{hits_by, outside_of, verdict_by};
 ghost use Rattle.sarif_scope.specs.Gate.{gate_by};
 ghost use Rattle.sarif_scope.specs.Inside.{artifacts_in, is_inside};
 ghost use Rattle.sarif_scope.specs.Summary.{summary_by};
-ghost use Rattle.sarif_scope.specs.Told.{facts_by, gate_told, summary_told, verdict_told};
+ghost use Rattle.sarif_scope.specs.Told.{facts_by, gate_told, hits_told, summary_told, verdict_told};
 ghost use Rattle.sarif_scope.specs.declared.gated.GatedChange.{GatedChange};
 
 /// Without a change the gate object, the hits, the verdict and the summary are those of all results.
@@ -41,12 +41,15 @@ pub fn hits_are_inside_or_outside()
         ≡ hits_of (count_of runs) policy - outside_of change policy runs }
 {}
 
-/// The gate object, the verdict and the summary follow from the counts of all results and from what the gate says about
-/// the change, if there is one.
+/// The gate object, the hits, the verdict and the summary follow from the counts of all results and from what the gate
+/// says about the change, if there is one.
 pub fn facts_say_what_is_inside()
     ensures gate { (change : Option GatedChange) (runs : List Data) (policy : Policy)
         (without unused : ℕ) → gate_by change runs policy without unused
         ≡ gate_told (facts_by change policy runs) (count_of runs) policy without unused }
+    ensures hits { (change : Option GatedChange) (runs : List Data) (policy : Policy)
+        → hits_by change policy runs
+        ≡ hits_told (facts_by change policy runs) (count_of runs) policy }
     ensures verdict { (change : Option GatedChange) (runs : List Data) (policy : Policy)
         → verdict_by change policy runs
         ≡ verdict_told (facts_by change policy runs) (count_of runs) policy }

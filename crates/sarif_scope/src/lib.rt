@@ -21,4 +21,4 @@ pub use laws::{
 };
 pub use outside::{artifacts_in, is_outside_of};
 pub use summary::summary_of_change;
-pub use told::{gate_value_told, summary_told, verdict_told};
+pub use told::{gate_value_told, hits_told, outside_told, summary_told, verdict_told};

@@ -7,9 +7,9 @@ ghost use Rattle.sarif_scope.specs.Told as said;
 
 use crate::facts::ChangeFacts;
 use crate::gate::gate_value_of_change;
-use crate::hits::verdict_inside;
+use crate::hits::{hits_inside, verdict_inside};
 use crate::summary::summary_of_change;
-use sarif_counts::{Counts, Verdict, gate_value, summary, verdict};
+use sarif_counts::{Counts, Verdict, gate_value, hits, summary, verdict};
 use sarif_options::Policy;
 use serde_json::Value;
 use std::alloc::{AllocError, Global};
@@ -31,6 +31,26 @@ pub fn gate_value_told(
     match change {
         None => gate_value(alloc, counts, policy, without, unused),
         Some(facts) => gate_value_of_change(alloc, counts, policy, without, unused, facts),
+    }
+}
+
+/// Returns how many results are hits, with a change or without one.
+pub fn hits_told(counts: &Counts, policy: &Policy, change: &Option<ChangeFacts>) -> u32
+    ensures { result ≡ said.hits_told change.now (count_at counts.now) policy.now }
+{
+    match change {
+        None => hits(counts, policy),
+        Some(facts) => hits_inside(counts, policy, facts.outside),
+    }
+}
+
+/// Returns how many results would be hits without the change, and aren't inside. Without a change there are none.
+pub fn outside_told(change: &Option<ChangeFacts>) -> u32
+    ensures { result ≡ said.outside_told change.now }
+{
+    match change {
+        None => 0,
+        Some(facts) => facts.outside,
     }
 }
 

@@ -9,9 +9,12 @@ use Rattle.sarif_model.specs.declared.kinds.State.{State}
 use Rattle.sarif_links.specs.Address.{is_address}
 use Rattle.sarif_findings.specs.declared.reporting.Reporting.{Reporting}
 use Rattle.sarif_findings.specs.Lookup.{help_uri}
-use Rattle.sarif_findings.specs.Reported.{finding_of, link_of, reported_of}
+use Rattle.sarif_findings.specs.Reported.{finding_of, link_of}
 use Rattle.sarif_findings.proofs.EachFinding.{each_finding}
+use Rattle.sarif_scope.specs.declared.gated.GatedChange.{GatedChange}
 use Rattle.sarif_shown.specs.FindingLaws.{HasAddress}
+use Rattle.sarif_shown.specs.ReportedInside.{reported_by}
+use Rattle.sarif_shown.proofs.FindingsInside.{each_inside}
 
 linked_by : (b : Bool) (uri : List ℕ) → is_address uri ≡ b → IfSome (if b then Some uri else None) (λ help. is_address help ≡ true)
 linked_by true uri h = h
@@ -25,5 +28,7 @@ finding_linked : (reporting : Reporting) (run result : Data) (l : Level) (s : St
 unfolding finding_of
 finding_linked reporting run result l s = linked (help_uri run result)
 
-pub all_linked : (reporting : Reporting) (log : Data) → All HasAddress (reported_of reporting log)
-all_linked reporting log = All-from_recursion HasAddress (reported_of reporting log) (each_finding HasAddress reporting (finding_linked reporting) log)
+pub all_linked : (change : Option GatedChange) (reporting : Reporting) (log : Data) → All HasAddress (reported_by change reporting log)
+all_linked change reporting log =
+    All-from_recursion HasAddress (reported_by change reporting log)
+    (each_inside HasAddress change reporting log (each_finding HasAddress reporting (finding_linked reporting) log))

@@ -17,12 +17,13 @@ use Rattle.sarif_links.specs.Address.{has_two_signs}
 use Rattle.sarif_findings.specs.ShownLaws.{is_seen, are_seen}
 use Rattle.sarif_findings.proofs.HighBytes.{high_apart, char_kept}
 use Rattle.sarif_findings.proofs.SeenMore.{shown_seen, shown_apart}
-use Rattle.sarif_findings.proofs.ToldFindings.{IsShown, IsPath, IsTold, all_told}
-use Rattle.sarif_findings.specs.Reported.{reported_of}
+use Rattle.sarif_findings.proofs.ToldFindings.{IsShown, IsPath, IsTold}
+use Rattle.sarif_shown.proofs.FindingsInside.{told_inside}
+use Rattle.sarif_shown.specs.ReportedInside.{reported_by}
 use Rattle.sarif_findings.specs.declared.reporting.Reporting.{Reporting}
 use Rattle.sarif_model.specs.Run.{runs_of}
-use Rattle.sarif_counts.specs.CountOf.{count_of}
-use Rattle.sarif_counts.specs.Hits.{hits_of}
+use Rattle.sarif_scope.specs.Counted.{hits_by}
+use Rattle.sarif_scope.specs.declared.gated.GatedChange.{GatedChange}
 use Rattle.serde_json.specs.Data.{Data}
 use Rattle.sarif_shown.specs.declared.escaping.Escaping.TheVariants.{IssueMessage, IssueProperty}
 use Rattle.sarif_shown.specs.Escaped.{escaped, escaped_char, issue_message_char, issue_property_char}
@@ -344,18 +345,18 @@ all_counted (f ∷ fs) told = (properties_counted f told.0, all_counted fs told.
 
 -- ---- the report
 
-pub issues_listed : (reporting : Reporting) (log : Data) → AreIssues (length (reported_of reporting log)) (azure_of (reported_of reporting log))
-issues_listed reporting log =
-    let fs = reported_of reporting log in
-    subst (λ n. AreIssues n (azure_lines_of (listed fs))) (length_listed fs) (all_issues (listed fs) (listed_told fs (all_told reporting log)))
+pub issues_listed : (change : Option GatedChange) (reporting : Reporting) (log : Data) → AreIssues (length (reported_by change reporting log)) (azure_of (reported_by change reporting log))
+issues_listed change reporting log =
+    let fs = reported_by change reporting log in
+    subst (λ n. AreIssues n (azure_lines_of (listed fs))) (length_listed fs) (all_issues (listed fs) (listed_told fs (told_inside change reporting log)))
 
-pub hit_issues : (reporting : Reporting) (log : Data)
-    → AreIssues (hits_of (count_of (runs_of log)) reporting.policy) (flat_map azure_line (hits_among (reported_of reporting log)))
-hit_issues reporting log =
-    let fs = reported_of reporting log in
-    subst (λ n. AreIssues n (azure_lines_of (hits_among fs))) (hits_counted reporting log) (all_issues (hits_among fs) (hits_told fs (all_told reporting log)))
+pub hit_issues : (change : Option GatedChange) (reporting : Reporting) (log : Data)
+    → AreIssues (hits_by change reporting.policy (runs_of log)) (flat_map azure_line (hits_among (reported_by change reporting log)))
+hit_issues change reporting log =
+    let fs = reported_by change reporting log in
+    subst (λ n. AreIssues n (azure_lines_of (hits_among fs))) (hits_counted change reporting log) (all_issues (hits_among fs) (hits_told fs (told_inside change reporting log)))
 
-pub hits_first : (reporting : Reporting) (log : Data)
-    → azure_of (reported_of reporting log)
-    ≡ flat_map azure_line (hits_among (reported_of reporting log)) ++ flat_map azure_line (others_among (reported_of reporting log))
-hits_first reporting log = lines_parted azure_line (reported_of reporting log)
+pub hits_first : (change : Option GatedChange) (reporting : Reporting) (log : Data)
+    → azure_of (reported_by change reporting log)
+    ≡ flat_map azure_line (hits_among (reported_by change reporting log)) ++ flat_map azure_line (others_among (reported_by change reporting log))
+hits_first change reporting log = lines_parted azure_line (reported_by change reporting log)

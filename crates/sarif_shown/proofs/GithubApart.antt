@@ -15,7 +15,7 @@ use Rattle.sarif_shown.specs.declared.escaping.Escaping.TheVariants.{Message, Pr
 use Rattle.sarif_shown.specs.Escaped.{escaped, escaped_char, message_char, property_char}
 use Rattle.sarif_shown.specs.GithubReport.{github_of, github_line, command_of, file_property, number_property, title}
 use Rattle.sarif_shown.specs.GithubLaws.{are_commands}
-use Rattle.sarif_findings.specs.Reported.{reported_of}
+use Rattle.sarif_shown.specs.ReportedInside.{reported_by}
 use Rattle.sarif_findings.specs.Shown.{shown_chars}
 use Rattle.sarif_findings.specs.ShownLaws.{is_seen, are_seen}
 use Rattle.sarif_findings.proofs.SeenMore.{shown_seen}
@@ -23,11 +23,12 @@ use Rattle.sarif_findings.proofs.CharsBack.{chars_back}
 use Rattle.sarif_findings.proofs.HighBytes.{high_apart, char_kept}
 use Rattle.sarif_shown.proofs.TextApart.{is_plain, seen_in_line, same_ends, decimal_plain}
 use Rattle.sarif_model.specs.Run.{runs_of}
-use Rattle.sarif_counts.specs.CountOf.{count_of}
-use Rattle.sarif_counts.specs.Hits.{hits_of}
+use Rattle.sarif_scope.specs.Counted.{hits_by}
+use Rattle.sarif_scope.specs.declared.gated.GatedChange.{GatedChange}
 use Rattle.sarif_shown.specs.Listed.{hits_among, listed, others_among}
 use Rattle.sarif_shown.proofs.ListedMore.{hits_counted, hits_told, length_listed, lines_parted, listed_told}
-use Rattle.sarif_findings.proofs.ToldFindings.{IsShown, IsPath, IsTold, all_told}
+use Rattle.sarif_findings.proofs.ToldFindings.{IsShown, IsPath, IsTold}
+use Rattle.sarif_shown.proofs.FindingsInside.{told_inside}
 
 -- what follows within a line, with this number of ends of lines
 record Inner (count : ℕ) (text : List ℕ) : Type 0 where
@@ -162,23 +163,23 @@ all_lines (f ∷ fs) h =
     let count : length fs + 1 ≡ length (f ∷ fs) = omega arith in
     subst (λ n. Lines n (flat_map github_line (f ∷ fs))) count (line_text (length fs) f (flat_map github_line fs) h.0 (all_lines fs h.1))
 
-pub commands_begin : (reporting : Reporting) (log : Data) → are_commands true (github_of (reported_of reporting log)) ≡ true
-commands_begin reporting log =
-    let fs = reported_of reporting log in
-    (all_lines (listed fs) (listed_told fs (all_told reporting log))).commands
+pub commands_begin : (change : Option GatedChange) (reporting : Reporting) (log : Data) → are_commands true (github_of (reported_by change reporting log)) ≡ true
+commands_begin change reporting log =
+    let fs = reported_by change reporting log in
+    (all_lines (listed fs) (listed_told fs (told_inside change reporting log))).commands
 
-pub lines_end : (reporting : Reporting) (log : Data) → count_by (λ b. b == 10) (github_of (reported_of reporting log)) ≡ length (reported_of reporting log)
-lines_end reporting log =
-    let fs = reported_of reporting log in
-    (all_lines (listed fs) (listed_told fs (all_told reporting log))).ends ∙ length_listed fs
+pub lines_end : (change : Option GatedChange) (reporting : Reporting) (log : Data) → count_by (λ b. b == 10) (github_of (reported_by change reporting log)) ≡ length (reported_by change reporting log)
+lines_end change reporting log =
+    let fs = reported_by change reporting log in
+    (all_lines (listed fs) (listed_told fs (told_inside change reporting log))).ends ∙ length_listed fs
 
-pub hit_lines : (reporting : Reporting) (log : Data)
-    → count_by (λ b. b == 10) (flat_map github_line (hits_among (reported_of reporting log))) ≡ hits_of (count_of (runs_of log)) reporting.policy
-hit_lines reporting log =
-    let fs = reported_of reporting log in
-    (all_lines (hits_among fs) (hits_told fs (all_told reporting log))).ends ∙ hits_counted reporting log
+pub hit_lines : (change : Option GatedChange) (reporting : Reporting) (log : Data)
+    → count_by (λ b. b == 10) (flat_map github_line (hits_among (reported_by change reporting log))) ≡ hits_by change reporting.policy (runs_of log)
+hit_lines change reporting log =
+    let fs = reported_by change reporting log in
+    (all_lines (hits_among fs) (hits_told fs (told_inside change reporting log))).ends ∙ hits_counted change reporting log
 
-pub hits_first : (reporting : Reporting) (log : Data)
-    → github_of (reported_of reporting log)
-    ≡ flat_map github_line (hits_among (reported_of reporting log)) ++ flat_map github_line (others_among (reported_of reporting log))
-hits_first reporting log = lines_parted github_line (reported_of reporting log)
+pub hits_first : (change : Option GatedChange) (reporting : Reporting) (log : Data)
+    → github_of (reported_by change reporting log)
+    ≡ flat_map github_line (hits_among (reported_by change reporting log)) ++ flat_map github_line (others_among (reported_by change reporting log))
+hits_first change reporting log = lines_parted github_line (reported_by change reporting log)

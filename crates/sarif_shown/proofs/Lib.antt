@@ -2,6 +2,7 @@ pub mod AddressSigns
 pub mod AzureApart
 pub mod EscapedApart
 pub mod EscapedMore
+pub mod FindingsInside
 pub mod GithubApart
 pub mod LinesMore
 pub mod LinksApart

@@ -1,5 +1,5 @@
 -- The listed results: each of them once, and what is true for all of them.
-use Rattle.std.proofs.Common.{◌≡◌, ◌==◌, ◌++◌, ℕ, Bool, true, false, cond, List, [], ◌∷◌, length, IsPermutation, ap, sym, refl, ◌∙◌}
+use Rattle.std.proofs.Common.{Option, ◌≡◌, ◌==◌, ◌++◌, ℕ, Bool, true, false, cond, List, [], ◌∷◌, length, IsPermutation, ap, sym, refl, ◌∙◌}
 use Rattle.std.specs.List.{AllByRecursion, count_by, filter}
 use Rattle.std.specs.Prelude.{take, drop, flat_map}
 use Rattle.std.proofs.Math.Seq.{take-append_seam, drop-append_seam}
@@ -12,12 +12,12 @@ use Rattle.sarif_model.specs.declared.kinds.Level.{Level}
 use Rattle.sarif_model.specs.declared.kinds.Level.TheVariants.{NoLevel, Note, Warning, Error}
 use Rattle.sarif_model.specs.Level.{severity}
 use Rattle.sarif_model.specs.Run.{runs_of}
-use Rattle.sarif_counts.specs.CountOf.{count_of}
-use Rattle.sarif_counts.specs.Hits.{hits_of}
+use Rattle.sarif_scope.specs.Counted.{hits_by}
+use Rattle.sarif_scope.specs.declared.gated.GatedChange.{GatedChange}
 use Rattle.sarif_findings.specs.declared.finding.Finding.{Finding}
 use Rattle.sarif_findings.specs.declared.reporting.Reporting.{Reporting}
-use Rattle.sarif_findings.specs.Reported.{reported_of}
-use Rattle.sarif_findings.proofs.HitsReported.{hits_reported}
+use Rattle.sarif_shown.specs.ReportedInside.{reported_by}
+use Rattle.sarif_shown.proofs.FindingsInside.{hits_inside}
 use Rattle.sarif_findings.proofs.ToldFindings.{IsTold}
 use Rattle.sarif_shown.specs.Listed.{by_level, hits_among, is_one, listed, of_level, others_among}
 
@@ -79,23 +79,23 @@ hits_told fs h =
 -- ---- the hits first
 
 -- the hits of a log are as many as the gate counts
-pub hits_counted : (reporting : Reporting) (log : Data) → length (hits_among (reported_of reporting log)) ≡ hits_of (count_of (runs_of log)) reporting.policy
-hits_counted reporting log =
-    let hits : List Finding = filter (is_one true) (reported_of reporting log) in
-    length_permutation hits (by_level hits) (level_permutes hits) ∙ length-filter (is_one true) (reported_of reporting log)
-    ∙ hits_reported reporting log
+pub hits_counted : (change : Option GatedChange) (reporting : Reporting) (log : Data) → length (hits_among (reported_by change reporting log)) ≡ hits_by change reporting.policy (runs_of log)
+hits_counted change reporting log =
+    let hits : List Finding = filter (is_one true) (reported_by change reporting log) in
+    length_permutation hits (by_level hits) (level_permutes hits) ∙ length-filter (is_one true) (reported_by change reporting log)
+    ∙ hits_inside change reporting log
 
-pub hits_first : (reporting : Reporting) (log : Data)
-    → take (hits_of (count_of (runs_of log)) reporting.policy) (listed (reported_of reporting log)) ≡ hits_among (reported_of reporting log)
-hits_first reporting log =
-    let fs : List Finding = reported_of reporting log in
-    ap (λ n. take n (listed fs)) (sym (hits_counted reporting log)) ∙ take-append_seam (hits_among fs) (others_among fs)
+pub hits_first : (change : Option GatedChange) (reporting : Reporting) (log : Data)
+    → take (hits_by change reporting.policy (runs_of log)) (listed (reported_by change reporting log)) ≡ hits_among (reported_by change reporting log)
+hits_first change reporting log =
+    let fs : List Finding = reported_by change reporting log in
+    ap (λ n. take n (listed fs)) (sym (hits_counted change reporting log)) ∙ take-append_seam (hits_among fs) (others_among fs)
 
-pub others_after : (reporting : Reporting) (log : Data)
-    → drop (hits_of (count_of (runs_of log)) reporting.policy) (listed (reported_of reporting log)) ≡ others_among (reported_of reporting log)
-others_after reporting log =
-    let fs : List Finding = reported_of reporting log in
-    ap (λ n. drop n (listed fs)) (sym (hits_counted reporting log)) ∙ drop-append_seam (hits_among fs) (others_among fs)
+pub others_after : (change : Option GatedChange) (reporting : Reporting) (log : Data)
+    → drop (hits_by change reporting.policy (runs_of log)) (listed (reported_by change reporting log)) ≡ others_among (reported_by change reporting log)
+others_after change reporting log =
+    let fs : List Finding = reported_by change reporting log in
+    ap (λ n. drop n (listed fs)) (sym (hits_counted change reporting log)) ∙ drop-append_seam (hits_among fs) (others_among fs)
 
 -- what is written for the hits, and then what is written for the others
 pub lines_parted : (line : Finding → List ℕ) (fs : List Finding)

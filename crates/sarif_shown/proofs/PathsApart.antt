@@ -13,11 +13,14 @@ use Rattle.sarif_findings.specs.declared.reporting.Reporting.{Reporting}
 use Rattle.sarif_findings.specs.Lookup.{uri_of}
 use Rattle.sarif_findings.specs.PathOf.{after_here, begins_here, decoded, is_removed, path_chars, without_here, without_root}
 use Rattle.sarif_findings.specs.Placeholders.{first_is}
-use Rattle.sarif_findings.specs.Reported.{finding_of, reported_of, shown_path}
+use Rattle.sarif_findings.specs.Reported.{finding_of, shown_path}
 use Rattle.sarif_findings.specs.Shown.{is_concealed, kept, parted_signs, plain, shown, shown_chars}
 use Rattle.sarif_findings.proofs.CharsBack.{chars_back}
 use Rattle.sarif_findings.proofs.EachFinding.{each_finding}
 use Rattle.sarif_shown.specs.FindingLaws.{IsNamed, starts_here}
+use Rattle.sarif_scope.specs.declared.gated.GatedChange.{GatedChange}
+use Rattle.sarif_shown.specs.ReportedInside.{reported_by}
+use Rattle.sarif_shown.proofs.FindingsInside.{each_inside}
 
 -- ---- before a path is shown
 
@@ -84,5 +87,7 @@ finding_named : (reporting : Reporting) (run result : Data) (l : Level) (s : Sta
 unfolding finding_of
 finding_named reporting run result l s = path_named reporting.roots (uri_of run result)
 
-pub all_named : (reporting : Reporting) (log : Data) → All IsNamed (reported_of reporting log)
-all_named reporting log = All-from_recursion IsNamed (reported_of reporting log) (each_finding IsNamed reporting (finding_named reporting) log)
+pub all_named : (change : Option GatedChange) (reporting : Reporting) (log : Data) → All IsNamed (reported_by change reporting log)
+all_named change reporting log =
+    All-from_recursion IsNamed (reported_by change reporting log)
+    (each_inside IsNamed change reporting log (each_finding IsNamed reporting (finding_named reporting) log))

@@ -1,5 +1,5 @@
 -- What a terminal shows, line by line, with and without styles.
-use Rattle.std.proofs.Common.{◌≡◌, ◌<◌, ◌==◌, ◌++◌, ◌+◌, ◌-◌, ◌/◌, ◌%◌, ℕ, zero, suc, Bool, true, false, not, List, [], ◌∷◌, codes, decimal, flat_map, if◌then◌else◌, length, take, refl, sym, ap, ◌∙◌, append-nil, append_assoc, arith}
+use Rattle.std.proofs.Common.{Option, ◌≡◌, ◌<◌, ◌==◌, ◌++◌, ◌+◌, ◌-◌, ◌/◌, ◌%◌, ℕ, zero, suc, Bool, true, false, not, List, [], ◌∷◌, codes, decimal, flat_map, if◌then◌else◌, length, take, refl, sym, ap, ◌∙◌, append-nil, append_assoc, arith}
 use Rattle.std.specs.Prelude.{encode_utf8_all, nat_lt}
 use Rattle.std.specs.Fmt.{digit_glyph, digits, digits_onto}
 use Rattle.std.specs.List.{AllByRecursion, list_all}
@@ -10,15 +10,16 @@ use Rattle.sarif_model.specs.declared.kinds.Level.TheVariants.{NoLevel, Note, Wa
 use Rattle.sarif_model.specs.Level.{level_name}
 use Rattle.sarif_model.specs.Run.{runs_of}
 use Rattle.sarif_model.specs.State.{state_name}
-use Rattle.sarif_counts.specs.CountOf.{count_of}
-use Rattle.sarif_counts.specs.Hits.{hits_of}
+use Rattle.sarif_scope.specs.Counted.{hits_by}
+use Rattle.sarif_scope.specs.declared.gated.GatedChange.{GatedChange}
 use Rattle.sarif_findings.specs.declared.finding.Finding.{Finding}
 use Rattle.sarif_findings.specs.declared.reporting.Reporting.{Reporting}
 use Rattle.sarif_findings.specs.Finding.{spot_text}
-use Rattle.sarif_findings.specs.Reported.{reported_of}
+use Rattle.sarif_shown.specs.ReportedInside.{reported_by}
 use Rattle.sarif_findings.specs.ShownLaws.{is_seen, are_seen}
 use Rattle.sarif_findings.proofs.HighBytes.{high_apart, char_kept}
-use Rattle.sarif_findings.proofs.ToldFindings.{IsShown, IsTold, all_told}
+use Rattle.sarif_findings.proofs.ToldFindings.{IsShown, IsTold}
+use Rattle.sarif_shown.proofs.FindingsInside.{told_inside}
 use Rattle.sarif_shown.specs.declared.terminal_lines.Screen.TheVariants.{Coloured, Plain}
 use Rattle.sarif_shown.specs.Listed.{hits_among}
 use Rattle.sarif_shown.specs.Sentences.{counted, more_hits, more_of_both, more_others, more_text}
@@ -183,9 +184,9 @@ all_unstyled : (fs : List Finding) → AllByRecursion IsTold fs → AllByRecursi
 all_unstyled [] told = tt
 all_unstyled (f ∷ fs) told = (line_unstyled f told.0, all_unstyled fs told.1)
 
-pub lines_unstyled : (reporting : Reporting) (log : Data)
-    → AllByRecursion (λ f. unstyled (screen_line Coloured f) ≡ text_line f) (reported_of reporting log)
-lines_unstyled reporting log = all_unstyled (reported_of reporting log) (all_told reporting log)
+pub lines_unstyled : (change : Option GatedChange) (reporting : Reporting) (log : Data)
+    → AllByRecursion (λ f. unstyled (screen_line Coloured f) ≡ text_line f) (reported_by change reporting log)
+lines_unstyled change reporting log = all_unstyled (reported_by change reporting log) (told_inside change reporting log)
 
 -- ---- the first hits
 
@@ -194,21 +195,21 @@ told_first zero fs told = tt
 told_first (suc n) [] told = tt
 told_first (suc n) (f ∷ fs) told = (told.0, told_first n fs told.1)
 
-pub first_lines : (n : ℕ) (reporting : Reporting) (log : Data)
-    → IsTextOfLines (length (take n (hits_among (reported_of reporting log)))) (flat_map text_line (take n (hits_among (reported_of reporting log))))
-first_lines n reporting log =
-    let hits = hits_among (reported_of reporting log) in
-    all_lines (take n hits) (told_first n hits (hits_told (reported_of reporting log) (all_told reporting log)))
+pub first_lines : (n : ℕ) (change : Option GatedChange) (reporting : Reporting) (log : Data)
+    → IsTextOfLines (length (take n (hits_among (reported_by change reporting log)))) (flat_map text_line (take n (hits_among (reported_by change reporting log))))
+first_lines n change reporting log =
+    let hits = hits_among (reported_by change reporting log) in
+    all_lines (take n hits) (told_first n hits (hits_told (reported_by change reporting log) (told_inside change reporting log)))
 
 parted : (n : ℕ) (fs : List Finding) → length (take n fs) + (length fs - n) ≡ length fs
 parted zero fs = omega arith
 parted (suc n) [] = omega arith
 parted (suc n) (f ∷ fs) = let rest = parted n fs in omega (arith, rest)
 
-pub hits_parted : (n : ℕ) (reporting : Reporting) (log : Data)
-    → length (take n (hits_among (reported_of reporting log))) + (length (hits_among (reported_of reporting log)) - n)
-    ≡ hits_of (count_of (runs_of log)) reporting.policy
-hits_parted n reporting log = parted n (hits_among (reported_of reporting log)) ∙ hits_counted reporting log
+pub hits_parted : (n : ℕ) (change : Option GatedChange) (reporting : Reporting) (log : Data)
+    → length (take n (hits_among (reported_by change reporting log))) + (length (hits_among (reported_by change reporting log)) - n)
+    ≡ hits_by change reporting.policy (runs_of log)
+hits_parted n change reporting log = parted n (hits_among (reported_by change reporting log)) ∙ hits_counted change reporting log
 
 -- ---- the whole report
 
@@ -232,7 +233,7 @@ hits_unstyled : (hits : List Finding) → AllByRecursion IsTold hits → unstyle
 hits_unstyled [] told = refl
 hits_unstyled (hit ∷ hits) told = some_unstyled (hit ∷ hits) told
 
-pub report_unstyled : (reporting : Reporting) (log : Data)
-    → unstyled (terminal_of Coloured (reported_of reporting log)) ≡ terminal_of Plain (reported_of reporting log)
-report_unstyled reporting log =
-    hits_unstyled (hits_among (reported_of reporting log)) (hits_told (reported_of reporting log) (all_told reporting log))
+pub report_unstyled : (change : Option GatedChange) (reporting : Reporting) (log : Data)
+    → unstyled (terminal_of Coloured (reported_by change reporting log)) ≡ terminal_of Plain (reported_by change reporting log)
+report_unstyled change reporting log =
+    hits_unstyled (hits_among (reported_by change reporting log)) (hits_told (reported_by change reporting log) (told_inside change reporting log))

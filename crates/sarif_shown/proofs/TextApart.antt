@@ -18,17 +18,18 @@ use Rattle.sarif_model.specs.State.{state_name}
 use Rattle.sarif_findings.specs.declared.finding.Finding.{Finding}
 use Rattle.sarif_findings.specs.declared.reporting.Reporting.{Reporting}
 use Rattle.sarif_findings.specs.Finding.{spot_text, place, place_path, numbered, begins_with_colon}
-use Rattle.sarif_findings.specs.Reported.{reported_of}
+use Rattle.sarif_shown.specs.ReportedInside.{reported_by}
 use Rattle.sarif_findings.specs.Shown.{shown_chars}
 use Rattle.sarif_links.specs.Address.{has_two_signs}
 use Rattle.sarif_findings.specs.ShownLaws.{is_seen, are_seen}
 use Rattle.sarif_shown.specs.TextReport.{text_lines_of, text_line, bracketed}
 use Rattle.sarif_shown.specs.TextLaws.{has_colon_line, AreLines, IsTextOfLines}
 use Rattle.sarif_findings.proofs.SeenMore.{shown_seen, shown_apart}
-use Rattle.sarif_findings.proofs.ToldFindings.{IsShown, IsPath, IsTold, all_told}
+use Rattle.sarif_findings.proofs.ToldFindings.{IsShown, IsPath, IsTold}
+use Rattle.sarif_shown.proofs.FindingsInside.{told_inside}
 use Rattle.sarif_model.specs.Run.{runs_of}
-use Rattle.sarif_counts.specs.CountOf.{count_of}
-use Rattle.sarif_counts.specs.Hits.{hits_of}
+use Rattle.sarif_scope.specs.Counted.{hits_by}
+use Rattle.sarif_scope.specs.declared.gated.GatedChange.{GatedChange}
 use Rattle.sarif_shown.specs.Listed.{hits_among, listed, others_among}
 use Rattle.sarif_shown.proofs.ListedMore.{hits_counted, hits_told, length_listed, lines_parted, listed_told}
 
@@ -285,19 +286,19 @@ all_lines (f ∷ fs) h =
     let count : length fs + 1 ≡ length (f ∷ fs) = omega arith in
     subst (λ n. IsTextOfLines n (flat_map text_line (f ∷ fs))) count (line_text (length fs) f (flat_map text_line fs) h.0 (all_lines fs h.1))
 
-pub text_lines : (reporting : Reporting) (log : Data) → IsTextOfLines (length (reported_of reporting log)) (text_lines_of (reported_of reporting log))
-text_lines reporting log =
-    let fs = reported_of reporting log in
-    subst (λ n. IsTextOfLines n (text_lines_of fs)) (length_listed fs) (all_lines (listed fs) (listed_told fs (all_told reporting log)))
+pub text_lines : (change : Option GatedChange) (reporting : Reporting) (log : Data) → IsTextOfLines (length (reported_by change reporting log)) (text_lines_of (reported_by change reporting log))
+text_lines change reporting log =
+    let fs = reported_by change reporting log in
+    subst (λ n. IsTextOfLines n (text_lines_of fs)) (length_listed fs) (all_lines (listed fs) (listed_told fs (told_inside change reporting log)))
 
-pub hit_lines : (reporting : Reporting) (log : Data)
-    → IsTextOfLines (hits_of (count_of (runs_of log)) reporting.policy) (flat_map text_line (hits_among (reported_of reporting log)))
-hit_lines reporting log =
-    let fs = reported_of reporting log in
-    subst (λ n. IsTextOfLines n (flat_map text_line (hits_among fs))) (hits_counted reporting log)
-    (all_lines (hits_among fs) (hits_told fs (all_told reporting log)))
+pub hit_lines : (change : Option GatedChange) (reporting : Reporting) (log : Data)
+    → IsTextOfLines (hits_by change reporting.policy (runs_of log)) (flat_map text_line (hits_among (reported_by change reporting log)))
+hit_lines change reporting log =
+    let fs = reported_by change reporting log in
+    subst (λ n. IsTextOfLines n (flat_map text_line (hits_among fs))) (hits_counted change reporting log)
+    (all_lines (hits_among fs) (hits_told fs (told_inside change reporting log)))
 
-pub hits_first : (reporting : Reporting) (log : Data)
-    → text_lines_of (reported_of reporting log)
-    ≡ flat_map text_line (hits_among (reported_of reporting log)) ++ flat_map text_line (others_among (reported_of reporting log))
-hits_first reporting log = lines_parted text_line (reported_of reporting log)
+pub hits_first : (change : Option GatedChange) (reporting : Reporting) (log : Data)
+    → text_lines_of (reported_by change reporting log)
+    ≡ flat_map text_line (hits_among (reported_by change reporting log)) ++ flat_map text_line (others_among (reported_by change reporting log))
+hits_first change reporting log = lines_parted text_line (reported_by change reporting log)

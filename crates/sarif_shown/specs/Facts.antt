@@ -6,6 +6,7 @@ use Rattle.sarif_counts.specs.Counts.{count_at}
 use Rattle.sarif_counts.specs.Hits.{Count}
 use Rattle.sarif_findings.specs.declared.finding.Finding.{Finding}
 use Rattle.sarif_findings.specs.declared.reporting.Show.{Show}
+use Rattle.sarif_scope.specs.declared.facts.ChangeFacts.{ChangeFacts}
 use Rattle.sarif_shown.specs.declared.told.ReportInput.{ReportInput}
 
 -- the facts about a merged log
@@ -26,6 +27,8 @@ pub record Facts : Type 0 where
   pub unused : ℕ
   -- what is for later merges, if anything is
   pub life : Option Life
+  -- what the gate says about a change, if it checks one
+  pub change : Option ChangeFacts
 
 -- what a report receives
 abbrev pub facts_of : ReportInput → Facts
@@ -38,4 +41,5 @@ facts_of told = record {
   without = told.without;
   unused = told.unused;
   life = option_map (λ life. life.now) told.life;
+  change = told.change;
 }

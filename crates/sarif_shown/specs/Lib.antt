@@ -11,6 +11,7 @@ pub mod Internal
 pub mod Linked
 pub mod Listed
 pub mod ListedLaws
+pub mod ReportedInside
 pub mod Sentences
 pub mod TerminalLaws
 pub mod TerminalReport

@@ -86,3 +86,9 @@ abbrev pub entries_text : ℕ → List ℕ
 entries_text n =
     counted n (codes " suppression entry matches nothing.")
     (codes " suppression entries match nothing.")
+
+-- the sentence on results outside of the change that would be hits
+abbrev pub outside_text : ℕ → List ℕ
+outside_text n =
+    counted n (codes " result outside the change would be a hit.")
+    (codes " results outside the change would be hits.")

@@ -1,13 +1,13 @@
 //! Laws of what reports show, and of the reports of one line per result. Each law is the contract of a function that
-//! does nothing. A log may be hostile, so the laws cover any strings.
-ghost use Rattle.std.specs.Prelude.{◌≡◌, ◌==◌, ◌++◌, ◌+◌, ◌-◌, ℕ, Bool, List, AllPairs, IsPermutation, true, false};
+//! does nothing. A log may be hostile, so the laws cover any strings. Without a change they are on all results of the
+//! log that are shown, and with one on those inside of it.
+ghost use Rattle.std.specs.Prelude.{◌≡◌, ◌==◌, ◌++◌, ◌+◌, ◌-◌, ℕ, Bool, List, Option, AllPairs, IsPermutation, true, false};
 ghost use Rattle.std.specs.Prelude.{codes, drop, flat_map, length, nat_eq, take};
 ghost use Rattle.std.specs.List.{AllByRecursion, count_by, filter, list_all, starts_with};
 ghost use Rattle.std.specs.List as list;
 ghost use Rattle.serde_json.specs.Data.{Data};
 ghost use Rattle.sarif_model.specs.declared.kinds.Level.{Level};
 ghost use Rattle.sarif_model.specs.Run.{runs_of};
-ghost use Rattle.sarif_counts.specs.Hits.{hits_of};
 ghost use Rattle.sarif_counts.specs.CountOf.{count_of};
 ghost use Rattle.sarif_findings.specs.declared.finding.Finding.{Finding};
 ghost use Rattle.sarif_shown.specs.declared.escaping.Escaping.TheVariants.{IssueProperty};
@@ -23,7 +23,6 @@ ghost use Rattle.sarif_shown.specs.ListedLaws.{MayPrecede, of_standing};
 ghost use Rattle.sarif_findings.specs.Links.{unlinked};
 ghost use Rattle.sarif_findings.specs.declared.reporting.Reporting.{Reporting};
 ghost use Rattle.sarif_findings.specs.declared.reporting.Show.TheVariants.{Hits, All};
-ghost use Rattle.sarif_findings.specs.Reported.{reported_of};
 ghost use Rattle.sarif_findings.specs.Shown.{shown_chars};
 ghost use Rattle.sarif_findings.specs.ShownLaws.{are_seen};
 ghost use Rattle.sarif_shown.specs.declared.terminal_lines.Screen.TheVariants.{Plain, Coloured};
@@ -31,7 +30,11 @@ ghost use Rattle.sarif_shown.specs.TerminalLaws.{unstyled};
 ghost use Rattle.sarif_shown.specs.TerminalReport.{most_shown, screen_line, terminal_of};
 ghost use Rattle.sarif_shown.specs.TextLaws.{IsTextOfLines};
 ghost use Rattle.sarif_shown.specs.TextReport.{text_line, text_lines_of};
+ghost use Rattle.sarif_shown.specs.ReportedInside.{reported_by};
 ghost use Rattle.sarif_shown.specs.Unshown.{unshown_number};
+ghost use Rattle.sarif_scope.specs.Counted.{hits_by};
+ghost use Rattle.sarif_scope.specs.Told.{facts_by};
+ghost use Rattle.sarif_scope.specs.declared.gated.GatedChange.{GatedChange};
 
 /// No character of a shown string is a control character, a line separator, or a character that hides or controls
 /// others.
@@ -47,23 +50,24 @@ pub fn shown_signs_stand_apart()
 /// The shown results of a merged log are the reported ones, or only the hits among them: then they are as many as the
 /// gate counts. The shown results and those that are not shown are together as many as the reported results.
 pub fn shown_results_are_counted()
-    ensures shown { (reporting : Reporting) (log : Data) →
-        reported_of (record reporting { show = Hits }) log
-        ≡ filter (λ f. f.hit) (reported_of (record reporting { show = All }) log) }
-    ensures hits { (reporting : Reporting) (log : Data) →
-        length (reported_of (record reporting { show = Hits }) log)
-        ≡ hits_of (count_of (runs_of log)) reporting.policy }
-    ensures all { (reporting : Reporting) (log : Data) →
-        length (reported_of reporting log)
-        + unshown_number reporting.show (count_of (runs_of log)) reporting.policy
-        ≡ length (reported_of (record reporting { show = All }) log) }
+    ensures shown { (change : Option GatedChange) (reporting : Reporting) (log : Data) →
+        reported_by change (record reporting { show = Hits }) log
+        ≡ filter (λ f. f.hit) (reported_by change (record reporting { show = All }) log) }
+    ensures hits { (change : Option GatedChange) (reporting : Reporting) (log : Data) →
+        length (reported_by change (record reporting { show = Hits }) log)
+        ≡ hits_by change reporting.policy (runs_of log) }
+    ensures all { (change : Option GatedChange) (reporting : Reporting) (log : Data) →
+        length (reported_by change reporting log)
+        + unshown_number (facts_by change reporting.policy (runs_of log)) reporting.show
+        (count_of (runs_of log)) reporting.policy
+        ≡ length (reported_by change (record reporting { show = All }) log) }
 {}
 
 /// The number of hits among the shown results of a merged log is the number that the gate counts.
 pub fn reported_hits_are_counted()
-    ensures { (reporting : Reporting) (log : Data) →
-        count_by (λ f. f.hit) (reported_of reporting log)
-        ≡ hits_of (count_of (runs_of log)) reporting.policy }
+    ensures { (change : Option GatedChange) (reporting : Reporting) (log : Data) →
+        count_by (λ f. f.hit) (reported_by change reporting log)
+        ≡ hits_by change reporting.policy (runs_of log) }
 {}
 
 /// A message in which `](` does not occur has no link to a place of its log: it is read as itself, for any arguments.
@@ -73,14 +77,15 @@ pub fn messages_without_targets_stay()
 
 /// No path of a shown result begins with `./`.
 pub fn paths_begin_with_names()
-    ensures { (reporting : Reporting) (log : Data) → list.All IsNamed (reported_of reporting log) }
+    ensures { (change : Option GatedChange) (reporting : Reporting) (log : Data) →
+        list.All IsNamed (reported_by change reporting log) }
 {}
 
 /// A rule is a link only to an address: it has only the characters of an address, and begins with `http`. So no quote,
 /// bracket, bar, backquote, dollar, backslash, space or character beyond ASCII is in it.
 pub fn rules_link_to_addresses()
-    ensures links { (reporting : Reporting) (log : Data) →
-        list.All HasAddress (reported_of reporting log) }
+    ensures links { (change : Option GatedChange) (reporting : Reporting) (log : Data) →
+        list.All HasAddress (reported_by change reporting log) }
     ensures signs { (text : List ℕ) → is_address text ≡ true
         → list_all is_address_sign text ≡ true }
     ensures scheme { (text : List ℕ) → is_address text ≡ true
@@ -95,28 +100,28 @@ pub fn listed_results_are_sorted()
     ensures sorted { (findings : List Finding) → AllPairs MayPrecede (listed findings) }
     ensures stable { (hit : Bool) (level : Level) (findings : List Finding) →
         of_standing hit level (listed findings) ≡ of_standing hit level findings }
-    ensures hits { (reporting : Reporting) (log : Data) →
-        take (hits_of (count_of (runs_of log)) reporting.policy)
-        (listed (reported_of reporting log)) ≡ hits_among (reported_of reporting log) }
-    ensures others { (reporting : Reporting) (log : Data) →
-        drop (hits_of (count_of (runs_of log)) reporting.policy)
-        (listed (reported_of reporting log)) ≡ others_among (reported_of reporting log) }
+    ensures hits { (change : Option GatedChange) (reporting : Reporting) (log : Data) →
+        take (hits_by change reporting.policy (runs_of log))
+        (listed (reported_by change reporting log)) ≡ hits_among (reported_by change reporting log) }
+    ensures others { (change : Option GatedChange) (reporting : Reporting) (log : Data) →
+        drop (hits_by change reporting.policy (runs_of log))
+        (listed (reported_by change reporting log)) ≡ others_among (reported_by change reporting log) }
     ensures length { (findings : List Finding) → length (listed findings) ≡ length findings }
 {}
 
 /// The text report of a log has exactly one line per shown result, no control character except their ends, no
 /// line that begins with a colon, and no two adjacent `#`. Its first lines are those of the hits.
 pub fn text_reports_have_a_line_a_result()
-    ensures lines { (reporting : Reporting) (log : Data) →
-        IsTextOfLines (length (reported_of reporting log))
-        (text_lines_of (reported_of reporting log)) }
-    ensures hits { (reporting : Reporting) (log : Data) →
-        IsTextOfLines (hits_of (count_of (runs_of log)) reporting.policy)
-        (flat_map text_line (hits_among (reported_of reporting log))) }
-    ensures first { (reporting : Reporting) (log : Data) →
-        text_lines_of (reported_of reporting log)
-        ≡ flat_map text_line (hits_among (reported_of reporting log))
-        ++ flat_map text_line (others_among (reported_of reporting log)) }
+    ensures lines { (change : Option GatedChange) (reporting : Reporting) (log : Data) →
+        IsTextOfLines (length (reported_by change reporting log))
+        (text_lines_of (reported_by change reporting log)) }
+    ensures hits { (change : Option GatedChange) (reporting : Reporting) (log : Data) →
+        IsTextOfLines (hits_by change reporting.policy (runs_of log))
+        (flat_map text_line (hits_among (reported_by change reporting log))) }
+    ensures first { (change : Option GatedChange) (reporting : Reporting) (log : Data) →
+        text_lines_of (reported_by change reporting log)
+        ≡ flat_map text_line (hits_among (reported_by change reporting log))
+        ++ flat_map text_line (others_among (reported_by change reporting log)) }
 {}
 
 /// A terminal shows each hit or counts it: the first hits have a line each. A line without colours is that of the text
@@ -124,56 +129,56 @@ pub fn text_reports_have_a_line_a_result()
 /// coloured screen shows, what is left is what a plain one shows. So no log writes a control sequence.
 pub fn terminals_show_the_hits()
     ensures plain { (f : Finding) → screen_line Plain f ≡ text_line f }
-    ensures coloured { (reporting : Reporting) (log : Data) →
+    ensures coloured { (change : Option GatedChange) (reporting : Reporting) (log : Data) →
         AllByRecursion (λ f. unstyled (screen_line Coloured f) ≡ text_line f)
-        (reported_of reporting log) }
-    ensures whole { (reporting : Reporting) (log : Data) →
-        unstyled (terminal_of Coloured (reported_of reporting log))
-        ≡ terminal_of Plain (reported_of reporting log) }
-    ensures lines { (reporting : Reporting) (log : Data) →
-        IsTextOfLines (length (take most_shown (hits_among (reported_of reporting log))))
-        (flat_map text_line (take most_shown (hits_among (reported_of reporting log)))) }
-    ensures counted { (reporting : Reporting) (log : Data) →
-        length (take most_shown (hits_among (reported_of reporting log)))
-        + (length (hits_among (reported_of reporting log)) - most_shown)
-        ≡ hits_of (count_of (runs_of log)) reporting.policy }
+        (reported_by change reporting log) }
+    ensures whole { (change : Option GatedChange) (reporting : Reporting) (log : Data) →
+        unstyled (terminal_of Coloured (reported_by change reporting log))
+        ≡ terminal_of Plain (reported_by change reporting log) }
+    ensures lines { (change : Option GatedChange) (reporting : Reporting) (log : Data) →
+        IsTextOfLines (length (take most_shown (hits_among (reported_by change reporting log))))
+        (flat_map text_line (take most_shown (hits_among (reported_by change reporting log)))) }
+    ensures counted { (change : Option GatedChange) (reporting : Reporting) (log : Data) →
+        length (take most_shown (hits_among (reported_by change reporting log)))
+        + (length (hits_among (reported_by change reporting log)) - most_shown)
+        ≡ hits_by change reporting.policy (runs_of log) }
 {}
 
 /// Each line of the report for GitHub Actions begins with one of its three commands, and there is one line per
 /// shown result: no log adds a command. Its first lines are those of the hits.
 #[tactic(auto, using(crate::proofs::GithubApart::commands_begin, crate::proofs::GithubApart::lines_end, crate::proofs::GithubApart::hit_lines, crate::proofs::GithubApart::hits_first))]
 pub fn github_lines_begin_with_commands()
-    ensures commands { (reporting : Reporting) (log : Data) →
-        are_commands true (github_of (reported_of reporting log)) ≡ true }
-    ensures lines { (reporting : Reporting) (log : Data) →
-        count_by (λ b. b == 10) (github_of (reported_of reporting log))
-        ≡ length (reported_of reporting log) }
-    ensures hits { (reporting : Reporting) (log : Data) →
-        count_by (λ b. b == 10) (flat_map github_line (hits_among (reported_of reporting log)))
-        ≡ hits_of (count_of (runs_of log)) reporting.policy }
-    ensures first { (reporting : Reporting) (log : Data) →
-        github_of (reported_of reporting log)
-        ≡ flat_map github_line (hits_among (reported_of reporting log))
-        ++ flat_map github_line (others_among (reported_of reporting log)) }
+    ensures commands { (change : Option GatedChange) (reporting : Reporting) (log : Data) →
+        are_commands true (github_of (reported_by change reporting log)) ≡ true }
+    ensures lines { (change : Option GatedChange) (reporting : Reporting) (log : Data) →
+        count_by (λ b. b == 10) (github_of (reported_by change reporting log))
+        ≡ length (reported_by change reporting log) }
+    ensures hits { (change : Option GatedChange) (reporting : Reporting) (log : Data) →
+        count_by (λ b. b == 10) (flat_map github_line (hits_among (reported_by change reporting log)))
+        ≡ hits_by change reporting.policy (runs_of log) }
+    ensures first { (change : Option GatedChange) (reporting : Reporting) (log : Data) →
+        github_of (reported_by change reporting log)
+        ≡ flat_map github_line (hits_among (reported_by change reporting log))
+        ++ flat_map github_line (others_among (reported_by change reporting log)) }
 {}
 
 /// The report for Azure Pipelines has one line per shown result. Each begins with the command
 /// `##vso[task.logissue type=`, has no other two adjacent `#` and no control character. A reader finds as many
 /// properties as its result has: no log adds a command or a property. Its first lines are those of the hits.
 pub fn azure_lines_are_commands()
-    ensures lines { (reporting : Reporting) (log : Data) →
-        AreIssues (length (reported_of reporting log))
-        (azure_of (reported_of reporting log)) }
-    ensures properties { (reporting : Reporting) (log : Data) →
+    ensures lines { (change : Option GatedChange) (reporting : Reporting) (log : Data) →
+        AreIssues (length (reported_by change reporting log))
+        (azure_of (reported_by change reporting log)) }
+    ensures properties { (change : Option GatedChange) (reporting : Reporting) (log : Data) →
         AllByRecursion (λ f. properties_read (azure_line f) ≡ properties_of f)
-        (listed (reported_of reporting log)) }
-    ensures hits { (reporting : Reporting) (log : Data) →
-        AreIssues (hits_of (count_of (runs_of log)) reporting.policy)
-        (flat_map azure_line (hits_among (reported_of reporting log))) }
-    ensures first { (reporting : Reporting) (log : Data) →
-        azure_of (reported_of reporting log)
-        ≡ flat_map azure_line (hits_among (reported_of reporting log))
-        ++ flat_map azure_line (others_among (reported_of reporting log)) }
+        (listed (reported_by change reporting log)) }
+    ensures hits { (change : Option GatedChange) (reporting : Reporting) (log : Data) →
+        AreIssues (hits_by change reporting.policy (runs_of log))
+        (flat_map azure_line (hits_among (reported_by change reporting log))) }
+    ensures first { (change : Option GatedChange) (reporting : Reporting) (log : Data) →
+        azure_of (reported_by change reporting log)
+        ≡ flat_map azure_line (hits_among (reported_by change reporting log))
+        ++ flat_map azure_line (others_among (reported_by change reporting log)) }
 {}
 
 /// A string in a property of a logging command contains no `;` and no `]`, so it ends neither the property nor the

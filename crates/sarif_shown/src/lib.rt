@@ -31,8 +31,8 @@ pub use linked::place_link;
 pub use listing::{list_findings, push_hits, push_others};
 pub use place::{push_numbered, push_path, push_place};
 pub use sentences::{
-    accept_text, count_text, entries_text, gate_end, gate_text, hits_text, more_text, runs_text,
-    unshown_text,
+    accept_text, count_text, entries_text, gate_end, gate_text, hits_text, more_text, outside_text,
+    runs_text, unshown_text,
 };
 pub use terminal_lines::{Screen, terminal_report};
 pub use text_lines::{push_result_line, text_report};

@@ -166,3 +166,15 @@ pub fn entries_text(alloc: Global, number: u32) -> Result<String, AllocError>
         " suppression entries match nothing.",
     )
 }
+
+/// Returns the sentence on results outside of the change that would be hits. Returns `AllocError` if memory runs out.
+pub fn outside_text(alloc: Global, number: u32) -> Result<String, AllocError>
+    ensures { IfOk result (λ s. string_bytes s ≡ said.outside_text number) }
+{
+    count_text(
+        alloc,
+        number as usize,
+        " result outside the change would be a hit.",
+        " results outside the change would be hits.",
+    )
+}

@@ -3,6 +3,7 @@ use sarif_counts::{Counts, Life};
 use sarif_findings::{Finding, Show};
 use sarif_links::Template;
 use sarif_options::Policy;
+use sarif_scope::ChangeFacts;
 use std::hash::RandomState;
 
 /// What reports are made from: the results of the merged log, counted, the policy of the gate, and the findings.
@@ -24,6 +25,9 @@ pub struct ReportInput<'a> {
     pub unused: u32,
     /// What is for later merges, if anything is.
     pub life: Option<&'a Life>,
+    /// What the gate says about the change, if it checks one. Then the findings are of results inside of it, and the
+    /// hits and the verdict are too; the counts are of all results.
+    pub change: Option<ChangeFacts>,
     /// The seed of hash tables whose keys come from logs. No report depends on it.
     pub seed: RandomState,
 }

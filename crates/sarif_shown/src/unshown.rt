@@ -7,6 +7,7 @@ use sarif_counts::{Counts, hits};
 use sarif_findings::Show;
 use sarif_model::Level;
 use sarif_options::Policy;
+use sarif_scope::{ChangeFacts, hits_told};
 
 /// How many results are reported: as many as there would be hits if results of every level were hits.
 fn reported_number(counts: &Counts, policy: &Policy) -> u32
@@ -20,12 +21,31 @@ fn reported_number(counts: &Counts, policy: &Policy) -> u32
     hits(counts, &policy)
 }
 
-/// Returns how many of the reported results are not shown.
-pub fn unshown_number(show: Show, counts: &Counts, policy: &Policy) -> u32
-    ensures { result ≡ said.unshown_number show (count_at counts.now) policy.now }
+/// Returns how many results are reported, with a change or without one.
+fn reported_told(counts: &Counts, policy: &Policy, change: &Option<ChangeFacts>) -> u32
+    ensures { result ≡ said.reported_told change.now (count_at counts.now) policy.now }
+{
+    let reported = reported_number(counts, policy);
+    match change {
+        None => reported,
+        Some(facts) => reported.saturating_sub(facts.unreported),
+    }
+}
+
+/// Returns how many of the reported results are not shown. With a change, those outside of it are not reported.
+pub fn unshown_number(
+    show: Show,
+    counts: &Counts,
+    policy: &Policy,
+    change: &Option<ChangeFacts>,
+) -> u32
+    ensures { result ≡ said.unshown_number change.now show (count_at counts.now) policy.now }
 {
     match show {
-        Show::Hits => reported_number(counts, policy).saturating_sub(hits(counts, policy)),
+        Show::Hits => {
+            let hits = hits_told(counts, policy, change);
+            reported_told(counts, policy, change).saturating_sub(hits)
+        }
         Show::All => 0,
     }
 }

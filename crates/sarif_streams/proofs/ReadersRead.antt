@@ -127,4 +127,5 @@ were_read_quiet remaining old new contents read =
     let logs = are_read_quiet remaining old.logs.items new.logs.items contents.logs read.logs in
     let baselines = are_read_quiet remaining old.baselines.items new.baselines.items contents.baselines read.baselines in
     let file = is_read_quiet remaining old.suppressions new.suppressions contents.suppressions read.suppressions in
-    omega (arith, logs, baselines, file)
+    let diff = is_read_quiet remaining old.diff new.diff contents.diff read.diff in
+    omega (arith, logs, baselines, file, diff)

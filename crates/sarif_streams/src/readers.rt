@@ -4,7 +4,7 @@ use crate::source::SourceFault;
 use sarif_model::Source;
 use std::fmt;
 
-/// The inputs of a merge: the logs, the baselines, and the suppression file, if there is one.
+/// The inputs of a merge: the logs, the baselines, and the suppression file and the diff, if there are any.
 #[derive(Debug, Drop)]
 pub struct Readers<R> {
     /// A reader for each log, in order.
@@ -13,6 +13,8 @@ pub struct Readers<R> {
     pub baselines: Vec<Counted<R>>,
     /// The reader of the suppression file, if there is one.
     pub suppressions: Option<Counted<R>>,
+    /// The reader of the diff, if there is one.
+    pub diff: Option<Counted<R>>,
 }
 
 /// The bytes that the readers of a merge gave, each up to its end.
@@ -24,6 +26,8 @@ pub struct SourceBytes {
     pub baselines: Vec<Vec<u8>>,
     /// The bytes of the suppression file, if there is one.
     pub suppressions: Option<Vec<u8>>,
+    /// The bytes of the diff, if there is one.
+    pub diff: Option<Vec<u8>>,
 }
 
 /// Why not all sources of a merge were read. A write cannot be the reason.

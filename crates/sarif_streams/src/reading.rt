@@ -62,32 +62,33 @@ fn read_readers<R: Read>(
     Ok(sources)
 }
 
-/// Reads the suppression file to its end, if there is one.
+/// Reads a source to its end, if it is there.
 fn read_optional<R: Read>(
     alloc: Global,
+    source: Source,
     reader: &mut Option<Counted<R>>,
 ) -> Result<Option<Vec<u8>>, Refusal<ReadersFault>>
     requires { failed_calls_if reader.old < 2 ^ 63 }
     ensures read { IfOk result (λ bytes. IsReadIf R.remaining reader.old
         reader.new (option_map (λ v. v.items) bytes)) }
-    ensures stopped { IfErr result (HasStoppedIf R.remaining reader.old reader.new) }
+    ensures stopped { IfErr result (HasStoppedIf R.remaining source reader.old reader.new) }
     ensures read_failed { RisesIf (reading_has_failed result)
         (failed_calls_if reader.old) (failed_calls_if reader.new) }
     ensures risen { failed_calls_if reader.old ≤ failed_calls_if reader.new }
 {
     match reader {
         Some(reader) => {
-            let bytes = read_reader(alloc, Source::Suppress, reader)?;
+            let bytes = read_reader(alloc, source, reader)?;
             Ok(Some(bytes))
         }
         None => Ok(None),
     }
 }
 
-/// Reads all sources to their ends, in this order: the logs, the baselines, the suppression file. The first source
-/// that cannot be read ends it: `ReadFailed` if a read failed, `TooLong` if it has more than `MOST_BYTES` bytes,
-/// each with the source; `OutOfMemory` if memory runs out. The sources before it were read, and the sources after
-/// it are untouched.
+/// Reads all sources to their ends, in this order: the logs, the baselines, the suppression file, the diff. The first
+/// source that cannot be read ends it: `ReadFailed` if a read failed, `TooLong` if it has more than `MOST_BYTES`
+/// bytes, each with the source; `OutOfMemory` if memory runs out. The sources before it were read, and the sources
+/// after it are untouched.
 pub fn read_sources<R: Read>(
     alloc: Global,
     readers: &mut Readers<R>,
@@ -110,10 +111,12 @@ pub fn read_sources<R: Read>(
         SourceKind::Baseline,
         readers.baselines.as_mut_slice(),
     )?;
-    let suppressions = read_optional(alloc, &mut readers.suppressions)?;
+    let suppressions = read_optional(alloc, Source::Suppress, &mut readers.suppressions)?;
+    let diff = read_optional(alloc, Source::Diff, &mut readers.diff)?;
     Ok(SourceBytes {
         logs,
         baselines,
         suppressions,
+        diff,
     })
 }

@@ -1,7 +1,9 @@
 pub mod Causes
+pub mod Inside
 pub mod NewEntries
 pub mod OthersCounted
 pub mod Shown
 pub mod Stays
 pub mod Taken
 pub mod Walked
+pub mod WithoutHidden

@@ -1,6 +1,7 @@
 -- One more of the results that are walked over.
 use Rattle.std.proofs.Common.{◌≡◌, ◌<◌, ◌≤◌, ◌+◌, ◌++◌, ◌&&◌, ℕ, suc, Bool, true, false, not, List, [], ◌∷◌, Some, map, drop, length, get_or, append_assoc, refl, sym, ap, ◌∙◌, arith, if◌then◌else◌}
 use Rattle.std.proofs.lemmas.List.{append-nil, drop_all, drop_more, get_or-map}
+use Rattle.std.specs.Prelude.{IfSome}
 use Rattle.sarif_model.specs.declared.kinds.State.{State}
 use Rattle.sarif_model.specs.declared.kinds.State.TheVariants.{Absent}
 use Rattle.sarif_model.specs.declared.record.Record.{Record}
@@ -11,8 +12,11 @@ use Rattle.sarif_results.specs.declared.draft.Draft.{Draft}
 use Rattle.sarif_results.specs.Drafts.{applied_of}
 use Rattle.sarif_entries.specs.declared.entry.Entry.{Entry}
 use Rattle.sarif_accept.specs.Adding.{accepted_among, is_hit, stays, MayBeHit}
-use Rattle.sarif_accept.specs.Choosing.{accepted_by, alike_among, is_alike, is_other, others_among}
+use Rattle.sarif_accept.specs.Choosing.{accepted_by, alike_among, is_alike, is_other, others_among, Marks}
+use Rattle.sarif_upkeep.specs.Internal.Hiding.{is_hidden_at, marks_left}
+use Rattle.sarif_upkeep.specs.Merge.{shown_by}
 use Rattle.sarif_upkeep.specs.Renewed.{absent_hits, no_entries, staying_among}
+use Rattle.sarif_upkeep.proofs.WithoutHidden.{shown_first, shown_past, shown_skip}
 
 -- the first of what is left of a list
 pub first_left : {X : Type 0} (xs : List X) (n : ℕ) (x d : X) → n < length xs → x ≡ get_or xs n d → drop n xs ≡ x ∷ drop (n + 1) xs
@@ -83,17 +87,39 @@ module _ (counts : MayBeHit) (file : File) where
       ∙ ap (λ l. all ++ accepted_by (Some l) counts file (drop n rs) (drop n states)) (sym (drop_all n marks past))
       ∙ held
 
-  pub staying_next : (rs : List Record) (states : List State) (n : ℕ) (r dr : Record) (state ds : State) (old one whole : ℕ)
-      → n < length rs → n < length states → r ≡ get_or rs n dr → state ≡ get_or states n ds
+  -- what is left of the hits with suppressions after the first n results, without the hidden ones
+  abbrev staying_left : Marks → List Record → List State → ℕ → ℕ
+  staying_left hidden rs states n =
+      staying_among counts file (shown_by (marks_left n hidden) (drop n rs)) (shown_by (marks_left n hidden) (drop n states))
+
+  pub staying_next : (hidden : Marks) (rs : List Record) (states : List State) (n : ℕ) (r dr : Record) (state ds : State) (old one whole : ℕ)
+      → n < length rs → n < length states → IfSome hidden (λ hs. n < length hs) → r ≡ get_or rs n dr → state ≡ get_or states n ds
+      → is_hidden_at hidden n ≡ false
       → one ≡ count_if (is_hit counts file r state && stays file r) 1
-      → old + staying_among counts file (drop n rs) (drop n states) ≡ whole
-      → (old + one) + staying_among counts file (drop (n + 1) rs) (drop (n + 1) states) ≡ whole
-  staying_next rs states n r dr state ds old one whole in_rs in_states r_is state_is counted held =
-      let rest = staying_among counts file (drop (n + 1) rs) (drop (n + 1) states) in
-      let opened : staying_among counts file (drop n rs) (drop n states) ≡ count_if (is_hit counts file r state && stays file r) 1 + rest =
-      ap (λ l. staying_among counts file l (drop n states)) (first_left rs n r dr in_rs r_is)
-      ∙ ap (λ l. staying_among counts file (r ∷ drop (n + 1) rs) l) (first_left states n state ds in_states state_is) in
+      → old + staying_left hidden rs states n ≡ whole → (old + one) + staying_left hidden rs states (n + 1) ≡ whole
+  staying_next hidden rs states n r dr state ds old one whole in_rs in_states in_marks r_is state_is seen counted held =
+      let later = shown_by (marks_left (n + 1) hidden) (drop (n + 1) rs) in
+      let rest = staying_left hidden rs states (n + 1) in
+      let opened : staying_left hidden rs states n ≡ count_if (is_hit counts file r state && stays file r) 1 + rest =
+      ap (λ l. staying_among counts file l (shown_by (marks_left n hidden) (drop n states))) (shown_first hidden rs n r dr in_rs in_marks r_is seen)
+      ∙ ap (λ l. staying_among counts file (r ∷ later) l) (shown_first hidden states n state ds in_states in_marks state_is seen) in
       omega (arith, counted, opened, held)
+
+  pub staying_skip : (hidden : Marks) (rs : List Record) (states : List State) (n : ℕ) (dr : Record) (ds : State) (old whole : ℕ)
+      → n < length rs → n < length states → IfSome hidden (λ hs. n < length hs) → is_hidden_at hidden n ≡ true
+      → old + staying_left hidden rs states n ≡ whole → old + staying_left hidden rs states (n + 1) ≡ whole
+  staying_skip hidden rs states n dr ds old whole in_rs in_states in_marks hides held =
+      let later = shown_by (marks_left (n + 1) hidden) (drop (n + 1) rs) in
+      let opened : staying_left hidden rs states n ≡ staying_left hidden rs states (n + 1) =
+      ap (λ l. staying_among counts file l (shown_by (marks_left n hidden) (drop n states))) (shown_skip hidden rs n dr in_rs in_marks hides)
+      ∙ ap (λ l. staying_among counts file later l) (shown_skip hidden states n ds in_states in_marks hides) in
+      omega (arith, opened, held)
+
+  pub staying_end : (hidden : Marks) (rs : List Record) (states : List State) (n all whole : ℕ) → length rs ≤ n
+      → all + staying_left hidden rs states n ≡ whole → all ≡ whole
+  staying_end hidden rs states n all whole past held =
+      let none = ap (λ l. staying_among counts file l (shown_by (marks_left n hidden) (drop n states))) (shown_past hidden rs n past) in
+      omega (arith, none, held)
 
   pub absent_next : (rs : List Record) (taken : List Bool) (n : ℕ) (r dr : Record) (t : Bool) (dt : Bool) (old one whole : ℕ)
       → n < length rs → n < length taken → r ≡ get_or rs n dr → t ≡ get_or taken n dt
@@ -118,46 +144,85 @@ module _ (counts : MayBeHit) (file : File) (es : List Entry) where
   one_long true r rs = one_more (length rs)
   one_long false r rs = from_zero (length rs)
 
-  pub alike_next : (marks : List Bool) (rs : List Record) (states : List State) (n : ℕ) (mark dm : Bool) (r dr : Record) (state ds : State)
-      (old one whole : ℕ)
-      → n < length marks → n < length rs → n < length states → mark ≡ get_or marks n dm → r ≡ get_or rs n dr → state ≡ get_or states n ds
-      → one ≡ count_if (is_alike counts file es mark r state) 1
-      → old + length (alike_among counts file es (drop n marks) (drop n rs) (drop n states)) ≡ whole
-      → (old + one) + length (alike_among counts file es (drop (n + 1) marks) (drop (n + 1) rs) (drop (n + 1) states)) ≡ whole
-  alike_next marks rs states n mark dm r dr state ds old one whole in_marks in_rs in_states mark_is r_is state_is counted held =
-      let rest = alike_among counts file es (drop (n + 1) marks) (drop (n + 1) rs) (drop (n + 1) states) in
-      let opened : length (alike_among counts file es (drop n marks) (drop n rs) (drop n states))
-      ≡ count_if (is_alike counts file es mark r state) 1 + length rest =
-      ap (λ l. length (alike_among counts file es l (drop n rs) (drop n states))) (first_left marks n mark dm in_marks mark_is)
-      ∙ ap (λ l. length (alike_among counts file es (mark ∷ drop (n + 1) marks) l (drop n states))) (first_left rs n r dr in_rs r_is)
-      ∙ ap (λ l. length (alike_among counts file es (mark ∷ drop (n + 1) marks) (r ∷ drop (n + 1) rs) l)) (first_left states n state ds in_states state_is)
-      ∙ one_long (is_alike counts file es mark r state) r rest in
-      omega (arith, counted, opened, held)
+  module _ (hidden : Marks) (marks : List Bool) (rs : List Record) (states : List State) (n : ℕ) where
+    -- what is left of these lists after the first n elements, without the hidden ones
+    abbrev marks_after : ℕ → List Bool
+    marks_after k = shown_by (marks_left k hidden) (drop k marks)
 
-  pub others_next : (marks : List Bool) (rs : List Record) (states : List State) (n : ℕ) (mark dm : Bool) (r dr : Record) (state ds : State)
-      (old one whole : ℕ)
-      → n < length marks → n < length rs → n < length states → mark ≡ get_or marks n dm → r ≡ get_or rs n dr → state ≡ get_or states n ds
-      → one ≡ count_if (is_other counts file es mark r state) 1
-      → old + length (others_among counts file es (drop n marks) (drop n rs) (drop n states)) ≡ whole
-      → (old + one) + length (others_among counts file es (drop (n + 1) marks) (drop (n + 1) rs) (drop (n + 1) states)) ≡ whole
-  others_next marks rs states n mark dm r dr state ds old one whole in_marks in_rs in_states mark_is r_is state_is counted held =
-      let rest = others_among counts file es (drop (n + 1) marks) (drop (n + 1) rs) (drop (n + 1) states) in
-      let opened : length (others_among counts file es (drop n marks) (drop n rs) (drop n states))
-      ≡ count_if (is_other counts file es mark r state) 1 + length rest =
-      ap (λ l. length (others_among counts file es l (drop n rs) (drop n states))) (first_left marks n mark dm in_marks mark_is)
-      ∙ ap (λ l. length (others_among counts file es (mark ∷ drop (n + 1) marks) l (drop n states))) (first_left rs n r dr in_rs r_is)
-      ∙ ap (λ l. length (others_among counts file es (mark ∷ drop (n + 1) marks) (r ∷ drop (n + 1) rs) l)) (first_left states n state ds in_states state_is)
-      ∙ one_long (is_other counts file es mark r state) r rest in
-      omega (arith, counted, opened, held)
+    abbrev records_after : ℕ → List Record
+    records_after k = shown_by (marks_left k hidden) (drop k rs)
 
-  pub alike_end : (marks : List Bool) (rs : List Record) (states : List State) (n : ℕ) (all whole : ℕ) → length marks ≤ n
-      → all + length (alike_among counts file es (drop n marks) (drop n rs) (drop n states)) ≡ whole → all ≡ whole
-  alike_end marks rs states n all whole past held =
-      let none = ap (λ l. length (alike_among counts file es l (drop n rs) (drop n states))) (drop_all n marks past) in
-      omega (arith, none, held)
+    abbrev states_after : ℕ → List State
+    states_after k = shown_by (marks_left k hidden) (drop k states)
 
-  pub others_end : (marks : List Bool) (rs : List Record) (states : List State) (n : ℕ) (all whole : ℕ) → length marks ≤ n
-      → all + length (others_among counts file es (drop n marks) (drop n rs) (drop n states)) ≡ whole → all ≡ whole
-  others_end marks rs states n all whole past held =
-      let none = ap (λ l. length (others_among counts file es l (drop n rs) (drop n states))) (drop_all n marks past) in
-      omega (arith, none, held)
+    pub alike_next : (mark dm : Bool) (r dr : Record) (state ds : State) (old one whole : ℕ)
+        → n < length marks → n < length rs → n < length states → IfSome hidden (λ hs. n < length hs)
+        → mark ≡ get_or marks n dm → r ≡ get_or rs n dr → state ≡ get_or states n ds → is_hidden_at hidden n ≡ false
+        → one ≡ count_if (is_alike counts file es mark r state) 1
+        → old + length (alike_among counts file es (marks_after n) (records_after n) (states_after n)) ≡ whole
+        → (old + one) + length (alike_among counts file es (marks_after (n + 1)) (records_after (n + 1)) (states_after (n + 1))) ≡ whole
+    alike_next mark dm r dr state ds old one whole in_marks in_rs in_states in_hidden mark_is r_is state_is seen counted held =
+        let rest = alike_among counts file es (marks_after (n + 1)) (records_after (n + 1)) (states_after (n + 1)) in
+        let opened : length (alike_among counts file es (marks_after n) (records_after n) (states_after n))
+        ≡ count_if (is_alike counts file es mark r state) 1 + length rest =
+        ap (λ l. length (alike_among counts file es l (records_after n) (states_after n)))
+        (shown_first hidden marks n mark dm in_marks in_hidden mark_is seen)
+        ∙ ap (λ l. length (alike_among counts file es (mark ∷ marks_after (n + 1)) l (states_after n)))
+        (shown_first hidden rs n r dr in_rs in_hidden r_is seen)
+        ∙ ap (λ l. length (alike_among counts file es (mark ∷ marks_after (n + 1)) (r ∷ records_after (n + 1)) l))
+        (shown_first hidden states n state ds in_states in_hidden state_is seen)
+        ∙ one_long (is_alike counts file es mark r state) r rest in
+        omega (arith, counted, opened, held)
+
+    pub others_next : (mark dm : Bool) (r dr : Record) (state ds : State) (old one whole : ℕ)
+        → n < length marks → n < length rs → n < length states → IfSome hidden (λ hs. n < length hs)
+        → mark ≡ get_or marks n dm → r ≡ get_or rs n dr → state ≡ get_or states n ds → is_hidden_at hidden n ≡ false
+        → one ≡ count_if (is_other counts file es mark r state) 1
+        → old + length (others_among counts file es (marks_after n) (records_after n) (states_after n)) ≡ whole
+        → (old + one) + length (others_among counts file es (marks_after (n + 1)) (records_after (n + 1)) (states_after (n + 1))) ≡ whole
+    others_next mark dm r dr state ds old one whole in_marks in_rs in_states in_hidden mark_is r_is state_is seen counted held =
+        let rest = others_among counts file es (marks_after (n + 1)) (records_after (n + 1)) (states_after (n + 1)) in
+        let opened : length (others_among counts file es (marks_after n) (records_after n) (states_after n))
+        ≡ count_if (is_other counts file es mark r state) 1 + length rest =
+        ap (λ l. length (others_among counts file es l (records_after n) (states_after n)))
+        (shown_first hidden marks n mark dm in_marks in_hidden mark_is seen)
+        ∙ ap (λ l. length (others_among counts file es (mark ∷ marks_after (n + 1)) l (states_after n)))
+        (shown_first hidden rs n r dr in_rs in_hidden r_is seen)
+        ∙ ap (λ l. length (others_among counts file es (mark ∷ marks_after (n + 1)) (r ∷ records_after (n + 1)) l))
+        (shown_first hidden states n state ds in_states in_hidden state_is seen)
+        ∙ one_long (is_other counts file es mark r state) r rest in
+        omega (arith, counted, opened, held)
+
+    pub alike_skip : (dm : Bool) (dr : Record) (ds : State) (old whole : ℕ)
+        → n < length marks → n < length rs → n < length states → IfSome hidden (λ hs. n < length hs) → is_hidden_at hidden n ≡ true
+        → old + length (alike_among counts file es (marks_after n) (records_after n) (states_after n)) ≡ whole
+        → old + length (alike_among counts file es (marks_after (n + 1)) (records_after (n + 1)) (states_after (n + 1))) ≡ whole
+    alike_skip dm dr ds old whole in_marks in_rs in_states in_hidden hides held =
+        ap (λ l. old + length l)
+        (sym (ap (λ l. alike_among counts file es l (records_after n) (states_after n)) (shown_skip hidden marks n dm in_marks in_hidden hides)
+        ∙ ap (λ l. alike_among counts file es (marks_after (n + 1)) l (states_after n)) (shown_skip hidden rs n dr in_rs in_hidden hides)
+        ∙ ap (λ l. alike_among counts file es (marks_after (n + 1)) (records_after (n + 1)) l) (shown_skip hidden states n ds in_states in_hidden hides)))
+        ∙ held
+
+    pub others_skip : (dm : Bool) (dr : Record) (ds : State) (old whole : ℕ)
+        → n < length marks → n < length rs → n < length states → IfSome hidden (λ hs. n < length hs) → is_hidden_at hidden n ≡ true
+        → old + length (others_among counts file es (marks_after n) (records_after n) (states_after n)) ≡ whole
+        → old + length (others_among counts file es (marks_after (n + 1)) (records_after (n + 1)) (states_after (n + 1))) ≡ whole
+    others_skip dm dr ds old whole in_marks in_rs in_states in_hidden hides held =
+        ap (λ l. old + length l)
+        (sym (ap (λ l. others_among counts file es l (records_after n) (states_after n)) (shown_skip hidden marks n dm in_marks in_hidden hides)
+        ∙ ap (λ l. others_among counts file es (marks_after (n + 1)) l (states_after n)) (shown_skip hidden rs n dr in_rs in_hidden hides)
+        ∙ ap (λ l. others_among counts file es (marks_after (n + 1)) (records_after (n + 1)) l) (shown_skip hidden states n ds in_states in_hidden hides)))
+        ∙ held
+
+    pub alike_end : (all whole : ℕ) → length marks ≤ n
+        → all + length (alike_among counts file es (marks_after n) (records_after n) (states_after n)) ≡ whole → all ≡ whole
+    alike_end all whole past held =
+        let none = ap (λ l. length (alike_among counts file es l (records_after n) (states_after n))) (shown_past hidden marks n past) in
+        omega (arith, none, held)
+
+    pub others_end : (all whole : ℕ) → length marks ≤ n
+        → all + length (others_among counts file es (marks_after n) (records_after n) (states_after n)) ≡ whole → all ≡ whole
+    others_end all whole past held =
+        let none = ap (λ l. length (others_among counts file es l (records_after n) (states_after n))) (shown_past hidden marks n past) in
+        omega (arith, none, held)

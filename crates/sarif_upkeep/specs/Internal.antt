@@ -1,3 +1,4 @@
 -- Definitions for contracts within and between the crates, and for proofs. The merge theorem reaches none of them.
+pub mod Hiding
 pub mod IsMatched
 pub mod Making

@@ -1,4 +1,5 @@
 pub mod Heard
+pub mod Hiding
 pub mod Internal
 pub mod Known
 pub mod Life

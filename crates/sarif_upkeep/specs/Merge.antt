@@ -1,11 +1,12 @@
 -- A merge whose results are matched, as far as later merges are concerned.
-use Rattle.std.specs.Prelude.{ℕ, ◌+◌, Bool, List, [], ◌∷◌, length, map, Option}
+use Rattle.std.specs.Prelude.{ℕ, ◌+◌, Bool, List, [], ◌∷◌, length, map, Option, Some, None, option_map}
 use Rattle.serde_json.specs.Data.{Data}
 use Rattle.sarif_model.specs.declared.kinds.State.{State}
 use Rattle.sarif_model.specs.declared.merge_fault.At.{At}
 use Rattle.sarif_model.specs.declared.record.Record.{Record}
 use Rattle.sarif_model.specs.Run.{present, results_of}
 use Rattle.sarif_options.specs.declared.policy.Policy.{Policy}
+use Rattle.sarif_read.specs.Unmarked.{unmarked}
 use Rattle.sarif_evidence.specs.declared.version.MatchingVersion.{MatchingVersion}
 use Rattle.sarif_entries.specs.File.{File}
 use Rattle.sarif_accept.specs.Choosing.{Marks}
@@ -29,7 +30,10 @@ pub record Merge : Type 0 where
   pub states : List State
   -- the same states, and whether they are doubtful
   pub standings : List Standing
-  -- which of these are chosen hits, if not all hits are, and the first place or rule of the choice that fits none of them
+  -- which of these are hidden from the gate, if it checks only a change: those that may be reported and are outside of
+  -- it; then absent results aren't hits
+  pub hidden : Marks
+  -- which of all these are chosen hits, if not all hits are, and the first place or rule of the choice that fits none of them
   pub chosen : Marks
   pub misfit : Option At
   -- the runs of the baselines, the records of their results that are not already absent, and which of these are the
@@ -37,6 +41,26 @@ pub record Merge : Type 0 where
   pub before : List Data
   pub known : List Record
   pub taken : List Bool
+
+-- the elements of a list that aren't hidden
+abbrev pub shown_by : {A : Type 0} → Marks → List A → List A
+shown_by None xs = xs
+shown_by (Some hidden) xs = unmarked hidden xs
+
+-- the marks of what isn't hidden
+abbrev pub marks_by : Marks → Marks → Marks
+marks_by None marks = marks
+marks_by (Some hidden) marks = option_map (unmarked hidden) marks
+
+-- the results that the gate checks, their baseline states, and which of them are chosen hits, if not all hits are
+abbrev pub records_shown : Merge → List Record
+records_shown m = shown_by m.hidden m.records
+
+abbrev pub states_shown : Merge → List State
+states_shown m = shown_by m.hidden m.states
+
+abbrev pub chosen_shown : Merge → Marks
+chosen_shown m = marks_by m.hidden m.chosen
 
 -- how many results of each run aren't absent already
 abbrev pub present_counts : List Data → List ℕ

@@ -22,7 +22,7 @@ use Rattle.sarif_accept.specs.Entry.{entry_for}
 use Rattle.sarif_accept.specs.Keeping.{is_kept}
 use Rattle.sarif_accept.specs.NewFile.{entries_after, file_object, file_text, new_file}
 use Rattle.sarif_upkeep.specs.Heard.{heard}
-use Rattle.sarif_upkeep.specs.Merge.{Merge}
+use Rattle.sarif_upkeep.specs.Merge.{chosen_shown, records_shown, states_shown, Merge}
 
 abbrev pub how_of : Merge → Renewal → How
 how_of m renewal =
@@ -35,14 +35,17 @@ abbrev pub kept_in : Merge → Renewal → List Bool
 kept_in m renewal =
     map (is_kept renewal.prune (heard m.runs) m.file m.records) m.file.entries
 
--- the chosen hits that are accepted, in the order of the merged log
+-- the chosen hits that are accepted, in the order of the merged log; pruning reads all results, and accepting those
+-- that the gate checks
 abbrev pub accepted_in : Merge → List Record
-accepted_in m = accepted_by m.chosen (may_hit m.policy) m.file m.records m.states
+accepted_in m =
+    accepted_by (chosen_shown m) (may_hit m.policy) m.file (records_shown m) (states_shown m)
 
 -- the results for which entries are added, as the version of matching sees them
 abbrev pub added_in : Merge → Renewal → List Record
 added_in m renewal =
-    added_by (how_of m renewal) m.chosen (may_hit m.policy) m.file m.records m.states
+    added_by (how_of m renewal) (chosen_shown m) (may_hit m.policy) m.file
+    (records_shown m) (states_shown m)
 
 -- the entries that accept them
 abbrev pub values_added : Merge → Renewal → List Data
@@ -65,16 +68,16 @@ rules_after m renewal =
 
 -- ---- its numbers
 
--- how many hits aren't chosen and are accepted all the same
+-- how many hits aren't chosen and are accepted all the same, by the marks of those that are chosen
 abbrev pub alike_in : Merge → Renewal → List Bool → ℕ
 alike_in m renewal marks =
     length (alike_among (may_hit m.policy) m.file (entries_added m renewal) marks
-    m.records m.states)
+    (records_shown m) (states_shown m))
 
 -- the number of these, if not all hits are chosen
 abbrev pub alike_told : Merge → Renewal → Option ℕ
 alike_told m renewal =
-    option_map (λ marks. count_if renewal.accept (alike_in m renewal marks)) m.chosen
+    option_map (λ marks. count_if renewal.accept (alike_in m renewal marks)) (chosen_shown m)
 
 -- how many hits among current results have suppressions, and so stay hits
 abbrev pub staying_among : MayBeHit → File → List Record → List State → ℕ
@@ -96,16 +99,25 @@ absent_hits counts file (r ∷ rs) (taken ∷ more) =
     count_if (not taken && is_hit counts (no_entries file) r Absent) 1
     + absent_hits counts file rs more
 
+-- with a change no absent result is a hit
+abbrev pub absent_by : Marks → ℕ → ℕ
+absent_by None n = n
+absent_by (Some hidden) n = 0
+
+-- how many results of the baselines that the gate checks are hits
+abbrev pub absent_stay : Merge → ℕ
+absent_stay m = absent_by m.hidden (absent_hits (may_hit m.policy) m.file m.known m.taken)
+
 -- how many hits among current results stay hits; if not all are chosen, how many are neither accepted nor alike
 abbrev pub current_stay : Merge → Renewal → Marks → ℕ
-current_stay m renewal None = staying_among (may_hit m.policy) m.file m.records m.states
+current_stay m renewal None =
+    staying_among (may_hit m.policy) m.file (records_shown m) (states_shown m)
 current_stay m renewal (Some marks) =
     length (others_among (may_hit m.policy) m.file (entries_added m renewal) marks
-    m.records m.states)
+    (records_shown m) (states_shown m))
 
 abbrev pub stay_in : Merge → Renewal → ℕ
-stay_in m renewal =
-    current_stay m renewal m.chosen + absent_hits (may_hit m.policy) m.file m.known m.taken
+stay_in m renewal = current_stay m renewal (chosen_shown m) + absent_stay m
 
 -- the new file, as it is given
 abbrev pub renewed : Merge → Renewal → NewFile

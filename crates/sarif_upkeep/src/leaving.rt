@@ -4,7 +4,7 @@ ghost use Rattle.sarif_model.specs.Limits.{most_entries};
 ghost use Rattle.sarif_counts.specs.Hits.{count_if};
 ghost use Rattle.sarif_accept.specs.Adding.{may_hit};
 ghost use Rattle.sarif_upkeep.specs.Internal.IsMatched.{IsMatched};
-ghost use Rattle.sarif_upkeep.specs.Merge.{Merge};
+ghost use Rattle.sarif_upkeep.specs.Merge.{records_shown, shown_by, states_shown, Merge};
 ghost use Rattle.sarif_upkeep.specs.Renewed as said;
 
 use crate::matched::{Current, Matched};
@@ -49,17 +49,19 @@ fn left_of_marked(
     requires added { length added.now ≤ most_entries }
     ensures alike { (m : Merge) → IsMatched m matched.now
         → map (λ r. r.now) added.now ≡ said.added_in m renewal.now
-        → IfOk result (λ others. others.alike ≡ said.alike_in m renewal.now marks.now) }
+        → IfOk result
+        (λ others. others.alike ≡ said.alike_in m renewal.now (shown_by m.hidden marks.now)) }
     ensures left { (m : Merge) → IsMatched m matched.now
         → map (λ r. r.now) added.now ≡ said.added_in m renewal.now
-        → IfOk result
-        (λ others. others.left ≡ said.current_stay m renewal.now (Some marks.now)) }
+        → IfOk result (λ others. others.left
+        ≡ said.current_stay m renewal.now (Some (shown_by m.hidden marks.now))) }
     ensures few { IfOk result
         (λ others. others.alike + others.left ≤ length matched.now.current.records.now) }
 {
     let rules = rules_added(alloc, seed, added, renewal, matched.file.today())?;
     let counting = Counting {
         policy: matched.policy,
+        hidden: matched.hidden,
         added: &rules,
     };
     let Current {
@@ -75,7 +77,8 @@ fn left_of_marked(
 fn left_of_all(matched: &Matched<'_, '_, '_>) -> usize
     requires { (m : Merge) × IsMatched m matched.now }
     ensures count { (m : Merge) → IsMatched m matched.now
-        → result ≡ said.staying_among (may_hit m.policy) m.file m.records m.states }
+        → result ≡ said.staying_among (may_hit m.policy) m.file
+        (records_shown m) (states_shown m) }
     ensures few { result ≤ length matched.now.current.records.now }
 {
     let Current {
@@ -84,10 +87,22 @@ fn left_of_all(matched: &Matched<'_, '_, '_>) -> usize
         states,
         ..
     } = matched.current;
-    staying_among(matched.policy, records, drafts, states)
+    staying_among(matched.policy, records, drafts, states, matched.hidden)
 }
 
-/// How many hits are alike, and how many stay, with the entries of these results.
+/// Returns how many hits among results of the baselines stay: none with a change.
+fn absent_stay(matched: &Matched<'_, '_, '_>) -> usize
+    requires { (m : Merge) × IsMatched m matched.now }
+    ensures count { (m : Merge) → IsMatched m matched.now → result ≡ said.absent_stay m }
+    ensures few { result ≤ length matched.now.before.records.now }
+{
+    match matched.hidden {
+        None => absent_hits(matched.policy, matched.before.records, matched.before.taken),
+        Some(_) => 0,
+    }
+}
+
+/// Returns how many hits are alike, and how many stay, with the entries of these results.
 pub(crate) fn left_by(
     alloc: Global,
     seed: RandomState,
@@ -108,7 +123,7 @@ pub(crate) fn left_by(
     if !renewal.accept {
         return Ok(none_left(matched.chosen));
     }
-    let absent = absent_hits(matched.policy, matched.before.records, matched.before.taken);
+    let absent = absent_stay(matched);
     match matched.chosen {
         None => Ok(Left {
             alike: None,

@@ -2,7 +2,9 @@
 #![tactic(auto)]
 
 mod accepting;
+mod hiding;
 mod knowing;
+mod laws;
 mod leaving;
 mod life;
 mod matched;
@@ -12,5 +14,9 @@ mod showing;
 mod staying;
 mod tools;
 
+pub use laws::{
+    a_change_is_for_accepting_alone, accepting_is_of_all_without_a_change,
+    accepting_with_a_change_is_choosing,
+};
 pub use life::life_of;
 pub use matched::{Before, Current, Matched};

@@ -50,6 +50,8 @@ pub struct Matched<'m, 't: 'm, 'a: 't> {
     pub once: bool,
     /// Whether the known log has regions and snippets.
     pub regions: bool,
+    /// Which of the current results are hidden from the gate, if it checks only a change.
+    pub hidden: Option<&'m [bool]>,
     /// Which of the current results are chosen hits, if not all hits are.
     pub chosen: Option<&'m [bool]>,
     /// The results of the input runs.

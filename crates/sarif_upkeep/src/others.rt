@@ -1,5 +1,5 @@
 //! The hits that aren't accepted: those that are alike, and the others.
-ghost use Rattle.std.specs.Prelude.{◌≡◌, ◌≤◌, ◌+◌, length, map, IfOk};
+ghost use Rattle.std.specs.Prelude.{◌≡◌, ◌≤◌, ◌+◌, length, map, IfOk, IfSome};
 ghost use Rattle.std.specs.List.{list_any};
 ghost use Rattle.sarif_counts.specs.Hits.{count_if};
 ghost use Rattle.sarif_entries.specs.File.{File};
@@ -7,18 +7,22 @@ ghost use Rattle.sarif_entries.specs.Matching.{matches};
 ghost use Rattle.sarif_results.specs.Drafts.{applied_of};
 ghost use Rattle.sarif_accept.specs.Adding.{may_hit};
 ghost use Rattle.sarif_accept.specs.Choosing.{alike_among, is_alike, is_other, others_among};
+ghost use Rattle.sarif_upkeep.specs.Internal.Hiding.{lent};
+ghost use Rattle.sarif_upkeep.specs.Merge.{shown_by};
 
 use crate::accepting::{has_suppressions, is_hit};
+use crate::hiding::is_hidden;
 use sarif_model::{Record, State};
 use sarif_options::Policy;
 use sarif_results::Draft;
 use sarif_suppress::Suppressions;
 use std::alloc::{AllocError, Global};
 
-/// By which policy results are hits, and the file of the added entries alone.
+/// By which policy results are hits, which results are hidden, and the file of the added entries alone.
 #[derive(Clone, Copy)]
 pub(crate) struct Counting<'m> {
     pub(crate) policy: Policy,
+    pub(crate) hidden: Option<&'m [bool]>,
     pub(crate) added: &'m Suppressions,
 }
 
@@ -74,7 +78,8 @@ fn count_one(
     }
 }
 
-/// Counts the hits among these results that aren't accepted, by the marks of those that are chosen.
+/// Counts the hits that aren't accepted, among those of these results that aren't hidden, by the marks of those that
+/// are chosen.
 pub(crate) fn count_others(
     alloc: Global,
     counting: &Counting<'_>,
@@ -86,21 +91,30 @@ pub(crate) fn count_others(
     requires drafts { length drafts.now ≡ length records.now }
     requires states { length states.now ≡ length records.now }
     requires marks { length marks.now ≡ length records.now }
+    requires hidden { IfSome (lent counting.now.hidden)
+        (λ hidden. length hidden ≡ length records.now) }
     ensures alike { (file : File)
         → map (λ draft. draft.applied) drafts.now ≡ map (applied_of file) records.now
         → file.today ≡ counting.now.added.now.today
         → IfOk result (λ others. others.alike ≡ length (alike_among (may_hit counting.now.policy)
-        file counting.now.added.now.entries marks.now records.now states.now)) }
+        file counting.now.added.now.entries (shown_by (lent counting.now.hidden) marks.now)
+        (shown_by (lent counting.now.hidden) records.now)
+        (shown_by (lent counting.now.hidden) states.now))) }
     ensures left { (file : File)
         → map (λ draft. draft.applied) drafts.now ≡ map (applied_of file) records.now
         → file.today ≡ counting.now.added.now.today
         → IfOk result (λ others. others.left ≡ length (others_among (may_hit counting.now.policy)
-        file counting.now.added.now.entries marks.now records.now states.now)) }
+        file counting.now.added.now.entries (shown_by (lent counting.now.hidden) marks.now)
+        (shown_by (lent counting.now.hidden) records.now)
+        (shown_by (lent counting.now.hidden) states.now))) }
     ensures few { IfOk result (λ others. others.alike + others.left ≤ length records.now) }
 {
     let mut alike = 0;
     let mut left = 0;
     for (number, record) in records.iter().enumerate() {
+        if is_hidden(counting.hidden, number) {
+            continue;
+        }
         let more = count_one(
             alloc,
             counting,

@@ -1,5 +1,5 @@
 //! The new suppression file.
-ghost use Rattle.std.specs.Prelude.{◌≡◌, ◌≤◌, ◌<◌, ◌⊎◌, [], Some, count_by, if◌then◌else◌, length, map, IfOk, IfErr};
+ghost use Rattle.std.specs.Prelude.{◌≡◌, ◌≤◌, ◌<◌, ◌⊎◌, [], None, Some, count_by, if◌then◌else◌, length, map, IfOk, IfErr};
 ghost use Rattle.std.specs.Option.{option_map_or};
 ghost use Rattle.json_parts.specs.Indexed.{json_of};
 ghost use Rattle.json_parts.specs.Mark.{without_mark};
@@ -20,6 +20,7 @@ ghost use Rattle.sarif_upkeep.specs.ReadBack.{IsNewFile};
 ghost use Rattle.sarif_upkeep.specs.Renewed as said;
 
 use crate::accepting::{accepted_among, accepted_marked};
+use crate::hiding::mark_looked_at;
 use crate::leaving::left_by;
 use crate::matched::{Current, Matched};
 use crate::showing::{references, shown_if_less};
@@ -58,7 +59,51 @@ fn kept_in(
     kept_entries(alloc, matched.file, &marks, &heard, renewal.prune)
 }
 
-/// The chosen hits that are accepted, if hits are to be accepted.
+/// Returns the chosen hits that are accepted, if the gate checks only a change: those that aren't hidden.
+fn accepted_shown<'m>(
+    alloc: Global,
+    matched: &Matched<'m, '_, '_>,
+    hidden: &[bool],
+) -> Result<Vec<&'m Record>, AllocError>
+    requires { (m : Merge) × IsMatched m matched.now × (m.hidden ≡ Some hidden.now) }
+    ensures accepted { (m : Merge) → IsMatched m matched.now → m.hidden ≡ Some hidden.now
+        → IfOk result (λ accepted. map (λ r. r.now) accepted.items ≡ said.accepted_in m) }
+    ensures few { IfOk result (λ accepted. length accepted.items ≤ most_results) }
+{
+    let marks = mark_looked_at(alloc, hidden, matched.chosen)?;
+    let Current {
+        records,
+        drafts,
+        states,
+        ..
+    } = matched.current;
+    accepted_marked(alloc, matched.policy, records, drafts, states, &marks)
+}
+
+/// Returns the chosen hits that are accepted, if the gate checks all results.
+fn accepted_all<'m>(
+    alloc: Global,
+    matched: &Matched<'m, '_, '_>,
+) -> Result<Vec<&'m Record>, AllocError>
+    requires { (m : Merge) × IsMatched m matched.now }
+    ensures accepted { (m : Merge) → IsMatched m matched.now → m.hidden ≡ None
+        → IfOk result (λ accepted. map (λ r. r.now) accepted.items ≡ said.accepted_in m) }
+    ensures few { IfOk result (λ accepted. length accepted.items ≤ most_results) }
+{
+    let Current {
+        records,
+        drafts,
+        states,
+        ..
+    } = matched.current;
+    let policy = matched.policy;
+    match matched.chosen {
+        None => accepted_among(alloc, policy, records, drafts, states),
+        Some(marks) => accepted_marked(alloc, policy, records, drafts, states, marks),
+    }
+}
+
+/// Returns the chosen hits that are accepted, if hits are to be accepted.
 fn accepted_if<'m>(
     alloc: Global,
     matched: &Matched<'m, '_, '_>,
@@ -72,16 +117,9 @@ fn accepted_if<'m>(
     if !accept {
         return Ok(Vec::new(alloc));
     }
-    let Current {
-        records,
-        drafts,
-        states,
-        ..
-    } = matched.current;
-    let policy = matched.policy;
-    match matched.chosen {
-        None => accepted_among(alloc, policy, records, drafts, states),
-        Some(marks) => accepted_marked(alloc, policy, records, drafts, states, marks),
+    match matched.hidden {
+        None => accepted_all(alloc, matched),
+        Some(hidden) => accepted_shown(alloc, matched, hidden),
     }
 }
 
@@ -159,8 +197,8 @@ fn count_kept(kept: &[bool]) -> usize
     kept.iter().filter(|one| **one).count()
 }
 
-/// The new suppression file of a merge, which is read as it is defined. It is rejected if it has more entries or bytes than
-/// a suppression file may have.
+/// Returns the new suppression file of a merge, which is read as it is defined. It is rejected if it has more entries
+/// or bytes than a suppression file may have.
 pub(crate) fn renew(
     alloc: Global,
     seed: RandomState,

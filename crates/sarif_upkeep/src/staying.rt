@@ -1,14 +1,17 @@
 //! The hits that stay.
-ghost use Rattle.std.specs.Prelude.{◌≡◌, ◌≤◌, ◌&&◌, not, length, map};
+ghost use Rattle.std.specs.Prelude.{◌≡◌, ◌≤◌, ◌&&◌, not, length, map, IfSome};
 ghost use Rattle.sarif_model.specs.declared.kinds.State.TheVariants.{Absent};
 ghost use Rattle.sarif_counts.specs.Hits.{count_if};
 ghost use Rattle.sarif_entries.specs.File.{File};
 ghost use Rattle.sarif_suppress.specs.Suppressing as suppressing;
 ghost use Rattle.sarif_results.specs.Drafts.{applied_of};
 ghost use Rattle.sarif_accept.specs.Adding.{is_hit, may_hit, stays};
+ghost use Rattle.sarif_upkeep.specs.Internal.Hiding.{lent};
+ghost use Rattle.sarif_upkeep.specs.Merge.{shown_by};
 ghost use Rattle.sarif_upkeep.specs.Renewed as said;
 
 use crate::accepting::{has_suppressions, is_hit};
+use crate::hiding::is_hidden;
 use sarif_model::{Record, State, Status};
 use sarif_options::Policy;
 use sarif_results::Draft;
@@ -28,22 +31,28 @@ fn count_one(policy: Policy, record: &Record, draft: &Draft, state: State) -> us
     }
 }
 
-/// How many hits among these results have suppressions, and so stay hits.
+/// Returns how many hits among those of these results that aren't hidden have suppressions, and so stay hits.
 pub(crate) fn staying_among(
     policy: Policy,
     records: &[Record],
     drafts: &[Draft],
     states: &[State],
+    hidden: Option<&[bool]>,
 ) -> usize
     requires drafts { length drafts.now ≡ length records.now }
     requires states { length states.now ≡ length records.now }
+    requires hidden { IfSome (lent hidden) (λ marks. length marks ≡ length records.now) }
     ensures count { (file : File)
         → map (λ draft. draft.applied) drafts.now ≡ map (applied_of file) records.now
-        → result ≡ said.staying_among (may_hit policy) file records.now states.now }
+        → result ≡ said.staying_among (may_hit policy) file
+        (shown_by (lent hidden.entry) records.now) (shown_by (lent hidden.entry) states.now) }
     ensures few { result ≤ length records.now }
 {
     let mut count = 0;
     for (number, record) in records.iter().enumerate() {
+        if is_hidden(hidden, number) {
+            continue;
+        }
         count += count_one(policy, record, &drafts[number], states[number]);
     }
     count
@@ -70,7 +79,7 @@ fn count_absent(policy: Policy, record: &Record, is_taken: bool) -> usize
     }
 }
 
-/// How many of the results that no current result matches are hits.
+/// Returns how many of the results that no current result matches are hits.
 pub(crate) fn absent_hits(policy: Policy, records: &[Record], taken: &[bool]) -> usize
     requires { length taken.now ≡ length records.now }
     ensures count { (file : File)

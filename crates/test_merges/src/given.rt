@@ -14,7 +14,7 @@ use std::test::Fail;
 /// The inputs of a merge.
 #[derive(Drop)]
 pub struct Given {
-    /// The logs, the baselines and the suppression file.
+    /// The logs, the baselines, the suppression file and the diff.
     pub sources: SourceBytes,
     /// What the gate fails on.
     pub policy: Policy,
@@ -29,13 +29,14 @@ pub struct Given {
 }
 
 impl Given {
-    /// No logs, for one worker, with the default policy and checks, on a system whose random bytes are 0.
+    /// Returns no logs, one worker, the default policy and checks, and a system whose random bytes are 0.
     pub fn new(alloc: Global) -> Given {
         Given {
             sources: SourceBytes {
                 logs: Vec::new(alloc),
                 baselines: Vec::new(alloc),
                 suppressions: None,
+                diff: None,
             },
             policy: Policy::default(),
             checks: Checks::new(alloc),
@@ -66,19 +67,28 @@ impl Given {
         self.sources.suppressions = Some(text.as_bytes().to_vec(alloc)?);
         Ok(())
     }
+
+    /// Sets the diff, which is this string.
+    pub fn diff(&mut self, alloc: Global, text: &str) -> Result<(), AllocError> {
+        self.sources.diff = Some(text.as_bytes().to_vec(alloc)?);
+        Ok(())
+    }
 }
 
-/// A copy of these checks. Returns `AllocError` if memory runs out.
+/// Returns a copy of these checks. Returns `AllocError` if memory runs out.
 pub(crate) fn copy_of(alloc: Global, checks: &Checks) -> Result<Checks, AllocError>
     ensures { IfOk result (λ copy. copy ≡ checks.now) }
 {
     let ignored = copy_names(alloc, checks.ignored.as_slice())?;
+    let roots = copy_names(alloc, checks.roots.as_slice())?;
     Ok(Checks {
         require_success: checks.require_success,
         allow_external: checks.allow_external,
         matching: checks.matching,
         once: checks.once,
         ignored,
+        scope: checks.scope,
+        roots,
     })
 }
 
@@ -92,7 +102,7 @@ fn copy_names(alloc: Global, names: &[Text]) -> Result<Sequence<Text>, AllocErro
     Ok(copy)
 }
 
-/// One log with these runs.
+/// Returns one log with these runs.
 pub fn one_log(alloc: Global, runs: &str) -> Result<Given, Fail> {
     let mut given = Given::new(alloc);
     let log = log_of(alloc, runs)?;
@@ -100,7 +110,7 @@ pub fn one_log(alloc: Global, runs: &str) -> Result<Given, Fail> {
     Ok(given)
 }
 
-/// One log and one baseline with these runs.
+/// Returns one log and one baseline with these runs.
 pub fn beside(alloc: Global, runs: &str, baseline_runs: &str) -> Result<Given, Fail> {
     let mut given = one_log(alloc, runs)?;
     let baseline = log_of(alloc, baseline_runs)?;
@@ -131,7 +141,7 @@ impl RandomSource for Bytes {
 /// Only zeros.
 pub const ZEROS: Bytes = Bytes { first: 0, step: 0 };
 
-/// The seed of hash tables if the system returns these random bytes.
+/// Returns the seed of hash tables if the system returns these random bytes.
 pub fn seed_of(bytes: Bytes) -> Result<RandomState, AllocError> {
     RandomState::new(&bytes).map_err(|_| AllocError)
 }

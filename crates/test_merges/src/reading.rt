@@ -29,7 +29,7 @@ pub struct Texts<'t> {
 }
 
 impl<'t> Texts<'t> {
-    /// One log without a baseline and a suppression file.
+    /// Returns one log without a baseline and a suppression file.
     pub fn of(log: &'t str) -> Texts<'t>
         ensures log { result.log.now ≡ log.now }
         ensures baseline { result.baseline.now ≡ [] }
@@ -65,6 +65,7 @@ pub fn readers_of<'t>(alloc: Global, texts: Texts<'t>) -> Result<Readers<&'t [u8
         } else {
             Some(Counted::new(file))
         },
+        diff: None,
     })
 }
 

@@ -1,5 +1,5 @@
 -- What a merge of two sides gives for later merges.
-use Rattle.std.specs.Prelude.{List, Option, Result, IfOk, IfErr}
+use Rattle.std.specs.Prelude.{List, Option, Result, IfOk, IfErr, option_map}
 use Rattle.sarif_model.specs.declared.merge_fault.MergeFault.{MergeFault}
 use Rattle.sarif_counts.specs.declared.life.Life.{Life}
 use Rattle.sarif_options.specs.declared.upkeep.Upkeep.{Upkeep}
@@ -10,8 +10,10 @@ use Rattle.sarif_prepare.specs.declared.file_read.FileRead.{FileRead}
 use Rattle.sarif_prepare.specs.declared.pairing.Sides.{Sides}
 use Rattle.sarif_prepare.specs.Asked.{choice_in}
 use Rattle.sarif_prepare.specs.Chosen.{chosen_merge}
-use Rattle.sarif_prepare.specs.Kept.{bytes_of, IsKept, IsUnkept}
+use Rattle.sarif_prepare.specs.Kept.{bytes_of, change_in, IsKept, IsUnkept}
+use Rattle.sarif_prepare.specs.Internal.Outside.{AreNarrowed}
 use Rattle.sarif_prepare.specs.Internal.Together.{AreTogether}
+use Rattle.sarif_scope.specs.declared.gated.GatedChange.{GatedChange}
 
 -- the two sides are those of these runs of logs and of baselines
 abbrev pub AreOfRuns : FileRead → Sides → List Placed → List Placed → Type 0
@@ -21,8 +23,14 @@ AreOfRuns rules sides current_runs baseline_runs =
 -- the merge of these runs, with the choice if there is one
 abbrev pub merge_by : FileRead → Asked → List Placed → List Placed → Merge
 merge_by rules asked current_runs baseline_runs =
-    chosen_merge asked.options.now.checks rules.file.now (bytes_of rules)
+    chosen_merge asked.options.now.checks rules.file.now (bytes_of rules) (change_in rules)
     asked.options.now.policy (choice_in asked) current_runs baseline_runs
+
+-- the results of logs are marked as the change says
+abbrev pub AreLookedAt : Option GatedChange → Asked → Sides → Type 0
+AreLookedAt change asked sides =
+    AreNarrowed change asked.options.now.policy sides.current.now sides.paired.now
+    (option_map (λ narrowed. narrowed.now) sides.narrowed)
 
 -- what is given for later merges is that of the merge of the sides' runs
 abbrev pub KeepsIfOk : FileRead → Asked → Sides → Option Upkeep → Result Life MergeFault → Type 0

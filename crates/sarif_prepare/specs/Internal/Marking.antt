@@ -19,6 +19,7 @@ use Rattle.sarif_choice.specs.declared.choice.Choosing.{Choosing}
 use Rattle.sarif_prepare.specs.Internal.Telling.{told_as}
 use Rattle.sarif_results.specs.declared.draft.Draft.{Draft}
 use Rattle.sarif_runs.specs.Placed.{Placed}
+use Rattle.sarif_scope.specs.declared.gated.GatedChange.{GatedChange}
 use Rattle.sarif_upkeep.specs.Life.{no_hit}
 use Rattle.sarif_upkeep.specs.Merge.{Merge}
 
@@ -53,8 +54,9 @@ abbrev pub rejected : Refusal Unfit → MergeFault
 rejected (refusal.Fault unfit) = no_hit (at_of unfit)
 rejected refusal.OutOfMemory = out_of_memory
 
--- the merge of these runs with this choice
-abbrev pub merge_with : File → Asked → Choosing → List Placed → List Placed → Merge
-merge_with file asked choosing current_runs baseline_runs =
-    chosen_merge asked.options.now.checks file None asked.options.now.policy
+-- the merge of these runs with this choice, and with the change if there is one
+abbrev pub merge_with : File → Option GatedChange → Asked → Choosing → List Placed → List Placed
+    → Merge
+merge_with file change asked choosing current_runs baseline_runs =
+    chosen_merge asked.options.now.checks file None change asked.options.now.policy
     (Some choosing) current_runs baseline_runs

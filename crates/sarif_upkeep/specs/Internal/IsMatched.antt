@@ -46,6 +46,8 @@ pub record IsMatched (m : Merge) (matched : Matched) : Type 0 where
   pub matching : matched.matching ≡ m.matching
   pub once : matched.once ≡ m.once
   pub regions : matched.regions ≡ m.regions
+  pub hidden : option_map (λ marks. marks.now) matched.hidden ≡ m.hidden
+  pub hidden_long : IfSome m.hidden (λ marks. length marks ≡ length m.records)
   pub chosen : option_map (λ marks. marks.now) matched.chosen ≡ m.chosen
   pub chosen_long : IfSome m.chosen (λ marks. length marks ≡ length m.records)
   pub fits : m.misfit ≡ None

@@ -1,12 +1,13 @@
 use Rattle.std.proofs.Common.{◌≡◌, ◌∙◌, List, ap, sym, subst, rules, true, None, Some, map, string_bytes}
+use Rattle.std.proofs.lemmas.Result.{err_from_is_err_and}
 use Rattle.clap.specs.Words.{App, app_of, fault_of, found_of, is_simple_and_free, HasKind, Row, kind_of, rows_of}
 use Rattle.sarif_request.specs.Command.{program}
 use Rattle.sarif_request.specs.Names.{clash_of, names_of}
 use Rattle.sarif_request.specs.Together.{misfit_of}
-use Rattle.sarif_request.specs.Words.{AreGiven, link_in, show_in, states_in}
+use Rattle.sarif_request.specs.Words.{AreGiven, link_in, scope_in, show_in, states_in}
 use Rattle.sarif_request.proofs.Asked.{asked, matched}
 use Rattle.sarif_request.proofs.Rows.{program_is_free}
-use Rattle.sarif_request.proofs.Told.{told, clashing, misfitting, nameless, same_names, stateless, templateless}
+use Rattle.sarif_request.proofs.Told.{told, clashing, misfitting, nameless, same_names, scopeless, stateless, templateless}
 use Rattle.sarif_request.proofs.words.read_words.Goals as goal
 
 pub returns-in_default : goal.returns-in_default
@@ -26,6 +27,15 @@ returns-in_default-named_show c =
     (λ simple. (c.in-Ok.ensures.matches simple).0) in
     let none : show_in (rows_of (found_of c.in-Ok.matches)) ≡ None = search rules in
     nameless found.0 words c.usage_of-in_default-named_show.result found.1 (are.0, ap show_in (sym are.1) ∙ none) c.usage_of-in_default-named_show.ensures
+
+pub returns-in_default-named_scope : goal.returns-in_default-named_scope
+returns-in_default-named_scope c =
+    let found = c.in_ok-command.ensures in
+    let words = map string_bytes c.args.words.now in
+    let are = matched found.0 (app_of c.in_ok-command.command) words (rows_of (found_of c.in-Ok.matches)) found.2 c.in-Ok.ensures.kinds
+    (λ simple. (c.in-Ok.ensures.matches simple).0) in
+    let none : scope_in (rows_of (found_of c.in-Ok.matches)) ≡ None = search rules in
+    scopeless found.0 words c.usage_of-in_default-named_scope.result found.1 (are.0, ap scope_in (sym are.1) ∙ none) c.usage_of-in_default-named_scope.ensures
 
 pub returns-in_default-linked : goal.returns-in_default-linked
 returns-in_default-linked c =
@@ -47,6 +57,12 @@ returns-in-Some-misfit_of c =
     misfitting found.0 words c.usage_of-in-Some-misfit_of.result found.1
     (are.0, c.in-Some-misfit_of.misfit, (given, subst (λ (rows : List Row). AreGiven rows given) are.1 c.given_of.ensures, misfit))
     c.usage_of-in-Some-misfit_of.ensures
+
+pub returns-in_err-found-in-Ok : goal.returns-in_err-found-in-Ok
+returns-in_err-found-in-Ok c =
+    let stop = c.from_residual-in_err-found-in-Ok in
+    let p = err_from_is_err_and stop.result stop.ensures.1 in
+    rw (p.1, p.2) tt
 
 pub returns-in-Some-found : goal.returns-in-Some-found
 returns-in-Some-found c =

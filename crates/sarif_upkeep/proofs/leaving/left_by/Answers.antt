@@ -1,8 +1,7 @@
 use Rattle.std.proofs.Common.{sym, ap, ◌∙◌}
-use Rattle.std.specs.Prelude.{option_map}
 use Rattle.sarif_counts.specs.Hits.{count_if}
-use Rattle.sarif_upkeep.specs.Renewed.{current_stay, stay_in}
-use Rattle.sarif_upkeep.proofs.OthersCounted.{absent_same, marks_long, none_alike, none_told, some_alike, stay_told}
+use Rattle.sarif_upkeep.specs.Renewed.{stay_in}
+use Rattle.sarif_upkeep.proofs.OthersCounted.{marks_long, none_alike, none_told, some_alike, stay_of_all, stay_of_marked, stay_told}
 use Rattle.sarif_upkeep.proofs.leaving.left_by.Goals as goal
 
 pub left_of_marked-requires-clause-marks : goal.left_of_marked-requires-clause-marks
@@ -23,8 +22,8 @@ pub returns-in-None-clause-stay : goal.returns-in-None-clause-stay
 returns-in-None-clause-stay c = λ m is added.
     let renewal = c.args.renewal.now in
     stay_told m renewal c.args.matched.now.chosen _ _ is.chosen c.if-not-renewal.false
-    (c.left_of_all.ensures.count m is ∙ ap (λ o. current_stay m renewal (option_map (λ marks. marks.now) o)) (sym c.in-None.is))
-    (c.absent_hits-absent.ensures.count m.file ∙ absent_same m c.args.matched.now is)
+    (stay_of_all m renewal c.args.matched.now.chosen _ c.in-None.is (c.left_of_all.ensures.count m is))
+    (c.absent_stay-absent.ensures.count m is)
 
 pub returns-in_ok-others-in-Some-clause-alike : goal.returns-in_ok-others-in-Some-clause-alike
 returns-in_ok-others-in-Some-clause-alike c = λ m is added.
@@ -35,5 +34,5 @@ pub returns-in_ok-others-in-Some-clause-stay : goal.returns-in_ok-others-in-Some
 returns-in_ok-others-in-Some-clause-stay c = λ m is added.
     let renewal = c.args.renewal.now in
     stay_told m renewal c.args.matched.now.chosen _ _ is.chosen c.if-not-renewal.false
-    (c.in_ok-others-in-Some.ensures.left m is added ∙ ap (λ o. current_stay m renewal (option_map (λ marks. marks.now) o)) (sym c.in-Some.is))
-    (c.absent_hits-absent.ensures.count m.file ∙ absent_same m c.args.matched.now is)
+    (stay_of_marked m renewal c.args.matched.now.chosen _ _ c.in-Some.is (c.in_ok-others-in-Some.ensures.left m is added))
+    (c.absent_stay-absent.ensures.count m is)

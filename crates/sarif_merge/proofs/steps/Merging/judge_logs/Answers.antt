@@ -17,12 +17,12 @@ returns-in_err-judged-clause-refused g c =
     let p = err_from_is_err_and c.from_residual.result c.from_residual.ensures.1 in
     let is : c.from_residual.result ≡ Err fault = rw (p.1, p.2) refl in
     subst (λ r. IfErr r (IsRejection c.args.self.now)) (sym is)
-    (rejected_logs c.args.self.now c.args.runs.items c.args.file.now fault c.requires.runs c.requires.file c.in_err-judged.ensures.faults
+    (rejected_logs c.args.self.now c.args.runs.items c.args.files.now.change.now fault c.requires.runs c.requires.change c.in_err-judged.ensures.faults
     c.in_err-judged.ensures.quiet)
 
 pub returns-clause-judged : goal.returns-clause-judged
 returns-clause-judged g c =
-    logs_judged c.args.self.now c.args.runs.items c.args.file.now c.in_ok-judged.judged c.requires.runs c.requires.file
+    logs_judged c.args.self.now c.args.runs.items c.args.files.now.file.now c.in_ok-judged.judged c.requires.runs c.requires.file
     c.in_ok-judged.ensures.runs c.in_ok-judged.ensures.outcomes c.in_ok-judged.ensures.faults
 
 pub returns-clause-sound : goal.returns-clause-sound
