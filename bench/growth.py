@@ -1,6 +1,7 @@
 """Inputs with many of one thing and little else, to measure how costs grow with it."""
 
 from shapes import Input, at, entries, log, message, run
+from shapes_change import lines_of, one_line, section
 
 
 def runs(count):
@@ -88,6 +89,17 @@ def sources(count):
     return Input([log(run([{}] * 20))] * count)
 
 
+def hunks(count):
+    found = [one_line(2 * i + 1) for i in range(count)]
+    return Input(lines_of("a.c", range(2, 2 * count + 2, 20)), diff=section("a.c", *found))
+
+
+def changed_files(count):
+    diff = "".join(section(f"src/{i:06}.c", one_line(1)) for i in range(count))
+    results = [{**message(f"m{i}", level="error"), **at(f"src/{i:06}.c")} for i in range(count // 10)]
+    return Input([log(run(results))], diff=diff)
+
+
 THINGS = {
     "runs": (runs, 10_000),
     "results": (results, 100_000),
@@ -100,6 +112,8 @@ THINGS = {
     "fingerprint names": (names_of_fingerprints, 40_000),
     "own suppressions": (suppressions, 200_000),
     "entries": (entries_of_rules, 10_000),
+    "hunks": (hunks, 500_000),
+    "changed files": (changed_files, 200_000),
     "arguments": (arguments, 200_000),
     "members": (members, 200_000),
     "depth": (depth, 120),

@@ -32,6 +32,8 @@ class Input:
     matching: int = 2
     # Whether copies are counted once.
     once: bool = False
+    # The diff of a change.
+    diff: Optional[str] = None
 
     def files(self, folder):
         """Writes the files. Returns the arguments that merge them."""
@@ -49,6 +51,8 @@ class Input:
         if self.matching != 2:
             words += ["--matching", str(self.matching)]
         words += ["--once"] * self.once
+        if self.diff is not None:
+            words += ["--diff", put(folder / "diff", self.diff)]
         return [*words, *(put(folder / f"log{n}", text) for n, text in enumerate(self.logs))]
 
     def statuses(self):
@@ -56,7 +60,7 @@ class Input:
         return [2] if self.is_too_long else [0, 1]
 
     def bytes(self):
-        return sum(map(len, [*self.logs, *self.baselines, self.suppress or ""]))
+        return sum(map(len, [*self.logs, *self.baselines, self.suppress or "", self.diff or ""]))
 
 
 def put(path, text):

@@ -9,6 +9,7 @@ from dataclasses import replace
 
 from shape_parts import LONG, MEGABYTE, OTHER_HASH, SAME_HASH, Input
 from shape_parts import at, entries, hashed, in_region, log, logs_of, message, placed, run
+from shapes_change import SHAPES as OF_CHANGES
 from shapes_fifth import accepted_by_snippet, entries_and_long_snippet, entries_of_one_snippet, entries_of_snippets
 from shapes_fifth import an_entry_that_admits_all, entries_used_up_in_turn, entries_with_max, long_entry_and_used_up_ones
 from shapes_fifth import message_entries_and_long_snippet, of_message, of_print
@@ -673,6 +674,7 @@ SHAPES = {
     "entries_max_in_turn": (entries_used_up_in_turn, 10_000),
     "entries_max_long": (long_entry_and_used_up_ones, 200),
     "entry_max_of_all": (an_entry_that_admits_all, 100_000),
+    **OF_CHANGES,
 }
 # The same in version 2.
 BOTH_VERSIONS = (

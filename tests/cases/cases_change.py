@@ -344,6 +344,23 @@ def faults():
         yield bad(f"{cause} at line {number}: {diff[-40:]!r}", diff, f"diff, line {number}: {cause}", seconds=seconds)
 
 
+def streams():
+    """A diff from a pipe that ends early, or that has nothing."""
+    words = ["--out", "o", "--diff", "-", "a.sarif"]
+    files = {"a.sarif": log(run("lint"))}
+    for name, given, fault in [
+        ("ends within a hunk", D[: D.index(b" z")], "diff, line 7: BadHunk"),
+        ("ends within a line", D[: D.index(b",4 @@")], "diff, line 4: BadHunk"),
+        ("has nothing", b"", "diff: NoChange"),
+    ]:
+        yield Case("change", f"the diff on standard input {name}", words, stdin=given, files=files, **refused(fault))
+    logs = {"b.sarif": log(run("lint", found(place("a.c", 2)))), "d": D}
+    words = ["--out", "o", "--diff", "d", "-", "b.sarif"]
+    said = shown(last=("diff: files 1, lines 1, outside 1", "gate: fail, hits 1, max 0"))
+    given = log(run("lint", found(place("b.c", 2))))
+    yield Case("change", "a log on standard input", words, stdin=given, files=logs, status=1, **said)
+
+
 def order():
     files = {"a.sarif": log(run("lint", {"kind": "x"})), "b": b"{", "s": rules({})}
     suppress, baseline = ["--suppress", "s"], ["--baseline", "b"]
@@ -397,6 +414,32 @@ def life():
         )
 
 
+def choosing():
+    """What is accepted by its place is inside, and so is what is counted as alike or as staying."""
+    two = section("a.c", H.replace(b"+1,4", b"+1,5").replace(b"+y\n", b"+y\n+w\n"))
+    texts = (("a.c", 2, "m"), ("a.c", 2, "n"), ("a.c", 3, "m"), ("a.c", 9, "m"), ("b.c", 2, "m"))
+    results = [{**found(place(uri, line)), "message": {"text": text}} for uri, line, text in texts]
+    files = {"a.sarif": log(run("lint", *results)), "d": two}
+    for words, counts in [
+        ("", "3 accepted, 0 stay, 0 pruned, 2 entries"),
+        ("--at a.c", "3 accepted, 0 alike, 0 stay, 0 pruned, 2 entries"),
+        ("--at a.c:3", "1 accepted, 1 alike, 1 stay, 0 pruned, 1 entries"),
+        ("--rule R1 --at a.c:2", "2 accepted, 1 alike, 0 stay, 0 pruned, 2 entries"),
+        ("--diff-scope files --at a.c:9", "1 accepted, 2 alike, 1 stay, 0 pruned, 1 entries"),
+    ]:
+        said = b"sarif_gate: %b\n" % counts.encode()
+        given = ["--out", "o", "--accept", "--suppress-out", "n", "--diff", "d", *words.split(), "a.sarif"]
+        yield Case("change", f"accepting {words}", given, files=files, status=1, stderr=said)
+    for words, fault in [
+        ("--at a.c:9", "--at 0: NoHit"),
+        ("--at a.c:2 --at b.c", "--at 1: NoHit"),
+        ("--diff-scope files --rule R1 --at b.c:2", "--at 0: NoHit"),
+    ]:
+        given = ["--out", "o", "--accept", "--suppress-out", "n", "--diff", "d", *words.split(), "a.sarif"]
+        look = lambda folder, kept: ["n was written"] * (folder / "n").exists()
+        yield Case("change", f"accepting what is outside: {words}", given, files=files, look=look, **refused(fault))
+
+
 def arguments():
     """Arguments that don't fit together."""
     files = {"a.sarif": log(run("lint", found(place("a.c", 2)))), "d": D}
@@ -430,9 +473,106 @@ def copies():
     yield Case("change", "copies that are counted", words, files=files, status=1, **said)
 
 
+# ---- Reports
+
+TOLD = '''\
+## Gate: fail, 1 hit, 0 allowed
+
+| | error | warning | note | none | suppressed |
+|---|--:|--:|--:|--:|--:|
+| new | 3 | 0 | 1 | 0 | 0 |
+| unchanged | 0 | 0 | 0 | 0 | 0 |
+| updated | 0 | 0 | 0 | 0 | 0 |
+| absent | 0 | 0 | 0 | 0 | 0 |
+
+2 results outside the change would be hits.
+
+| hit | level | place | rule | message | tool | state |
+|---|---|---|---|---|---|---|
+| yes | error | <code>a&#46;c&#58;2</code> | <code>R1</code> | <code>m0</code> | <code>lint</code> | new |
+|  | note | <code>a&#46;c&#58;2</code> | <code>R1</code> | <code>m3</code> | <code>lint</code> | new |
+
+To accept this hit, run the same merge with `--accept --reason TEXT --suppress-out FILE`, review FILE, and pass `--suppress FILE` from then on; `--at PLACE` accepts one alone.
+'''
+
+TESTED = '''\
+<?xml version="1.0" encoding="UTF-8"?>
+<testsuites name="sarif_gate" tests="2" failures="1">
+<testsuite name="lint" tests="2" failures="1" skipped="0">
+<testcase name="a.c:2: R1" classname="a.c" file="a.c" line="2"><failure type="error" message="m0">a.c:2: error: m0 [R1] (lint, new)</failure></testcase>
+<testcase name="a.c:2: R1 (2)" classname="a.c" file="a.c" line="2"/>
+</testsuite>
+</testsuites>
+'''
+
+COMMANDS = "::error file=a.c,line=2,title=R1 (lint)::m0\n::notice file=a.c,line=2,title=R1 (lint)::m3\n"
+
+
+def reported(name, results, words, wanted, status=1, diff=D):
+    """A merge of these results with these reports, which must have these texts."""
+    results = [{**it, "message": {"text": f"m{number}"}} for number, it in enumerate(results)]
+
+    def look(folder, kept):
+        texts = {kind: (folder / kind).read_text() if (folder / kind).is_file() else None for kind in wanted}
+        wrong = [(kind, wanted[kind](text or "")) for kind, text in texts.items() if callable(wanted[kind])]
+        same = [(kind, text) for kind, text in texts.items() if not callable(wanted[kind])]
+        wrong += [(kind, [difference(wanted[kind].encode(), text and text.encode())]) for kind, text in same if text != wanted[kind]]
+        return [f"{kind}: {fault}" for kind, faults in wrong for fault in faults]
+
+    words = ["--out", "o", *(it for kind in wanted for it in (f"--{kind}", kind)), "--diff", "d", *words, "a.sarif"]
+    return Case("change", name, words, files={"a.sarif": log(run("lint", *results)), "d": diff}, status=status, look=look)
+
+
+def holds(*pieces, without=()):
+    """Checks that a report has each of these pieces, and none of the others."""
+    return lambda text: [f"it has no {it!r}" for it in pieces if it not in text] + [f"it has {it!r}" for it in without if it in text]
+
+
+def reports():
+    note = {**FOUR[1], "level": "note"}
+    four = [FOUR[1], FOUR[3], FOUR[3], note]
+    inside = holds("a.c", without=["b.c", "m1", "m2"])
+    wanted = {"markdown": TOLD, "junit": TESTED, "github": COMMANDS, "gitlab": inside, "azure": inside}
+    yield reported("reports of what is inside", four, [], wanted)
+    one = ["## Gate: pass, 0 hits, 0 allowed\n", "\n\n1 result outside the change would be a hit.\n"]
+    wanted = {"markdown": holds(*one, "|  | note |"), "junit": holds('tests="1" failures="0"', "/>\n</testsuite>")}
+    yield reported("reports without a hit inside", [FOUR[3], note], [], wanted, 0)
+    wanted = {"markdown": holds("## Gate: fail, 1 hit, 0 allowed\n", without=["outside the change"])}
+    yield reported("reports without a hit outside", [FOUR[1], {**FOUR[3], "level": "note"}], [], wanted)
+    yield reported("a hit of a file of the change", [FOUR[0], FOUR[3]], ["--diff-scope", "files"], {"markdown": holds(one[1], "| yes |")})
+    wanted = {"markdown": holds("## Gate: pass, 1 hit, 1 allowed\n", "2 results outside"), "junit": holds("<skipped ", without=["<failure "])}
+    yield reported("a hit that is allowed", four, ["--max", "1"], wanted, 0)
+
+
+def pages():
+    """Pages and hits alone, which the second merger doesn't write."""
+    four = [FOUR[1], FOUR[3], FOUR[3], {**FOUR[1], "level": "note"}]
+    hit = "<p>A hit is a result that is new or updated, of level error, {}, and not suppressed.</p>"
+    counts = '<th scope="row" align="left">new</th><td class="on"><b>3</b></td><td>0</td><td>1</td><td>0</td><td>0</td>'
+    wanted = [
+        "<title>Gate: fail, 1 hit, 0 allowed</title>",
+        '<h1 class="fail">Gate: fail<span>, 1 hit, 0 allowed</span></h1>',
+        hit.format("on a line of the change"),
+        counts,
+        '</table>\n<p class="mind">2 results outside the change would be hits.</p>\n</div>\n</header>',
+        "1 hit stops this change",
+        "1 other result<",
+    ]
+    yield reported("a page of what is inside", four, [], {"html": holds(*wanted, without=["b.c", "m1", "m2"])})
+    files = [hit.format("in a file of the change"), '<p class="mind">2 results outside the change would be hits.</p>']
+    yield reported("a page of files", four, ["--diff-scope", "files"], {"html": holds(*files)})
+    wanted = [hit.format("on a line of the change"), '<h1 class="pass">Gate: pass<span>, 1 hit, 1 allowed</span></h1>', "1 hit, within the 1 allowed"]
+    yield reported("a page of a gate that passes", four, ["--max", "1"], {"html": holds(*wanted)}, 0)
+    unshown = ['<p class="mind">1 other result isn\'t shown.</p>', '<p class="mind">2 results outside the change would be hits.</p>']
+    yield reported("a page of hits alone", four, ["--show", "hits"], {"html": holds(*unshown)})
+    note, one = four[3], "\n\n1 result outside the change would be a hit.\n"
+    others = [FOUR[1], note, note, FOUR[3], {**FOUR[3], "level": "note"}]
+    wanted = {"markdown": holds("\n2 other results aren't shown.\n", one, without=["|  |"])}
+    yield reported("results that aren't shown are inside", others, ["--show", "hits"], wanted)
+
+
 def cases():
-    """All cases. They aren't in tests/program/run yet: the program doesn't have the options."""
-    shapes = (alone, lines, places, flows, removals, forms, names, whole, several, paths, faults, order, life, arguments, copies)
+    shapes = (alone, lines, places, flows, removals, forms, names, whole, several, paths, faults, streams, order, life, choosing, arguments, copies, reports)
     for part in shapes:
         for case in part():
             yield replace(case, group="change")

@@ -105,6 +105,34 @@ def explanations():
         yield memory(f"{name}, explained", [text], 4, more=["--explain"], status=2, stdout=b"", check=check)
 
 
+DIFF = (
+    b"From 1\n\n---\n src/a.c | 2 +-\n\ndiff --git a/src/a.c b/src/a.c\nindex 1..2 100644\n--- a/src/a.c\n+++ b/src/a.c\n"
+    b"@@ -1,3 +1,3 @@\n x\n-y\n+z\n x\n@@ -9 +9,0 @@\n-y\n"
+    b'diff --git "a/\\303\\251.c" "b/\\303\\251.c"\nold mode 100644\nnew mode 100755\n'
+    b"diff --git a/x.c b/gen/b.c\nrename from x.c\nrename to gen/b.c\n"
+)
+
+
+def changes():
+    """Merges with a diff: what is inside of its change is reported and accepted."""
+    old = {**OLD_OUTPUT, "d": DIFF, "t": OLD, "h": OLD}
+    more = ["--diff", "d", "--root", "gen/", "--fail-on", "note", "--text", "t", "--html", "h"]
+    far = log(run("lint", ruled(level="error", **at("far.c")), ruled(level="note", **at("a.c"))))
+    said = "diff: files 3, lines 1, outside 1\n"
+    told = lambda answer: [f"it said {answer.stdout[-90:]!r}"] * (said not in answer.stdout.decode())
+    for workers in (1, 4):
+        yield memory("a diff", [NOW, far], workers, baselines=[BEFORE], more=more, old=old, status=1, check=told)
+    files = [*more, "--diff-scope", "files", "--suppress-out", "n", "--accept"]
+    yield memory("a diff, accepting", [NOW, far], 1, more=files, old={**old, "n": OLD}, status=1, check=told)
+    faults = {"diff: NoChange": b"x\n", "diff, line 17: BadHunk": DIFF.replace(b"@@ -9 +9,0 @@", b"@@ -9 +9 @@")}
+    for fault, text in faults.items():
+        yield memory(f"rejected with {fault}", [NOW], 1, more=more, old={**old, "d": text}, **refused(fault))
+    bad = {**old, "d": b"diff --cc a.c\n"}
+    check = explains("diff, line 1: Combined", found="diff --cc a.c")
+    yield memory("a diff that is rejected, explained", [NOW], 1, more=[*more, "--explain"], old=bad, status=2, check=check)
+    yield Case("memory", "a diff on standard input", ["--out", "o", "--diff", "-", "a"], files={"a": NOW}, stdin=DIFF, status=1)
+
+
 def words():
     files = {"a": NOW, "g": b"# a\n--workers\n1\na\n", "h": b"a\n@g\n", **OLD_OUTPUT}
     rows = {
@@ -148,5 +176,5 @@ def later_merges():
 
 
 def cases():
-    for part in (merges, refusals, explanations, words, outputs, later_merges):
+    for part in (merges, changes, refusals, explanations, words, outputs, later_merges):
         yield from part()

@@ -145,6 +145,19 @@ def told_of_words():
     bad = f"error: invalid value '0' for '--workers <NUMBER>': expected a number from 1 to 64{more}"
     words = ["--workers", "0", "--out", "o", "a"]
     yield one("what is said of a wrong value", words, stderr=bad.encode(), **given)
+    for words, sentence in (
+        ("--diff-scope lines", "--diff-scope needs --diff"),
+        ("--diff d --diff-scope line", "invalid value for '--diff-scope <SCOPE>': expected lines or files"),
+        ("--diff d --states new,absent", "--states with absent and --diff cannot be used together"),
+        ("--diff - -", "standard input (-) can be only one of the logs and --diff"),
+        ("--diff d --text d", "--text would overwrite the diff d"),
+    ):
+
+        def check(answer, sentence=sentence):
+            said = answer.stderr.decode()
+            return [f"it said {said!r}, and not {sentence!r}"] * (sentence not in said)
+
+        yield one(f"what is said of {words}", [*words.split(), "--out", "o", "a"], check=check, **given)
 
 
 def wrong(name, words, files=()):
@@ -422,6 +435,29 @@ def explained_outputs():
         yield explained(f"{fault}, explained", files, fault, words, file="no/f", system=True, advice=True)
 
 
+def explained_diffs():
+    """Errors of a diff, with the line that has them."""
+    words = ["--diff", "d", "--out", "o", "a"]
+    head = b"diff --git a/a.c b/a.c\n--- a/a.c\n+++ b/a.c\n"
+    submodules = "pass --submodule=diff to git diff, or --ignore-submodules"
+    for fault, diff, told in (
+        ("diff: NoChange", b"", {"advice": True}),
+        ("diff, line 1: Combined", b"diff --cc a.c", {"found": "diff --cc a.c", "advice": "compare two commits: git diff A B"}),
+        ("diff, line 2: Submodule", b"diff --git a/s b/s\nindex 1..2 160000\n", {"found": "index 1..2 160000", "advice": submodules}),
+        ("diff, line 4: BadHunk", head + b"@@ -1 +1\n", {"found": "@@ -1 +1"}),
+        ("diff, line 6: BadHunk", head + b"@@ -1 +1 @@\n-x\n", {"found": "nothing"}),
+        ("diff, line 3: BadHeader", head[:-10] + b'+++ "\x1b' + b"b" * 100, {"found": '+++ " ' + "b" * 74 + "..."}),
+    ):
+        if "line" in fault:
+            told["line"] = fault.split()[2].rstrip(":")
+        yield explained(f"{fault} of {diff[-20:]!r}", {"d": diff}, fault, words, file="d", wanted=True, **told)
+    fault = "diff: ReadFailed (d)"
+    yield explained("a diff that isn't there", {}, fault, words, file="d", system=NO_FILE, advice=True)
+    fault = "diff: ReadFailed (.)"
+    words = ["--diff", ".", "--out", "o", "a"]
+    yield explained("a folder as a diff", {}, fault, words, file=".", found="a folder")
+
+
 def explained_choices():
     """Places and rules that fit no hit that is accepted."""
     hit = log(run("lint", ruled(level="error")))
@@ -552,6 +588,7 @@ def explanations():
     yield from happened()
     yield from explained_outputs()
     yield from explained_choices()
+    yield from explained_diffs()
     yield from explained_inputs(bad)
     yield from explained_forms()
     evil = plain(correlationGuid="x\n\x1b[31m##\u202e")

@@ -7,8 +7,10 @@ from functools import cached_property
 
 import hostile_logs as hostile
 import reference
+import reference_diff
 from azure_reader import azure_faults
 from cases import *
+from drawn_diffs import Diffs
 from markdown_reader import markdown_faults
 from page_reader import page_faults
 from reference_reports import Policy, Reports
@@ -27,6 +29,8 @@ class Reporting(Case):
     baselines: list = field(default_factory=list)
     suppress: Optional[bytes] = None
     kept: Optional[str] = None
+    diff: Optional[bytes] = None
+    scope: str = "lines"
 
     def __post_init__(self):
         self.look, self.seconds = self.compare, 600
@@ -37,6 +41,9 @@ class Reporting(Case):
         if self.suppress is not None:
             self.files["rules"] = self.suppress
             self.words = [*self.words, "--suppress", "rules"]
+        if self.diff is not None:
+            self.files["diff"] = self.diff
+            self.words = [*self.words, "--diff", "diff", "--diff-scope", self.scope]
         self.words = [*self.words, *self.of_policy(), *every_report(), "--out", "o"]
         self.words += [f"log{number}" for number in range(len(self.logs))]
 
@@ -49,11 +56,12 @@ class Reporting(Case):
     @cached_property
     def merge(self):
         policy = reference.Policy(self.policy.fail_on, self.policy.max)
-        return reference.Merge(self.logs, self.baselines, self.suppress, policy)
+        diff = None if self.diff is None else reference.Diff(self.diff, self.scope, self.policy.roots())
+        return reference.Merge(self.logs, self.baselines, self.suppress, policy, diff=diff)
 
     @cached_property
     def reports(self):
-        return Reports(json.loads(self.merge.text()), self.policy)
+        return Reports(json.loads(self.merge.text()), self.policy, self.merge.change)
 
     def compare(self, folder, kept):
         return [
@@ -238,7 +246,21 @@ def drawn(seed, count):
         show = "hits" if number % 4 == 3 else "all"
         policy = Policy(level, rng.choice([0, 1, 4]), root=root, show=show, link=template(number))
         name = f"seed {seed}, number {number}"
-        yield Reporting("drawn", name, logs=logs, baselines=before, policy=policy)
+        given = {"logs": logs, "baselines": before, "policy": policy}
+        if number % 3 == 2:
+            given |= {"diff": drawn_diff(rng), "scope": rng.choice(["lines", "files"])}
+        yield Reporting("drawn", name, **given)
+
+
+def drawn_diff(rng):
+    """A diff without an error of some of the files of hostile logs."""
+    while True:
+        diff = Diffs(rng, rng.sample(hostile.FILES, rng.choice([1, 2, len(hostile.FILES)]))).diff()
+        try:
+            reference_diff.read(diff)
+            return diff
+        except reference_diff.Fault:
+            pass
 
 
 def of_rows():

@@ -853,6 +853,43 @@ def allowed():
     yield report("the page: 10,000 results have rows", log_of(many), {"html": wanted}, status=1)
 
 
+# ---- A change
+
+
+CHANGE = b"diff --git a/a.c b/a.c\n--- a/a.c\n+++ b/a.c\n@@ -1,3 +1,4 @@\n x\n+y\n z\n z\n"
+
+
+def of_changes():
+    """Reports show what is inside of a change, and say how many hits there would be outside of it."""
+
+    def on(word, uri, line, level="error"):
+        return {"ruleId": "R1", "level": level, **said(word), **placed(uri, startLine=line)}
+
+    given = {"prepare": lambda folder: (folder / "d").write_bytes(CHANGE) and None}
+    one = "1 result outside the change would be a hit."
+    reason = "of level note, warning or error, in a file of the change, and not suppressed."
+    wanted = {
+        "markdown": has("## Gate: pass, 2 hits, 2 allowed", one),
+        "html": has(reason, one),
+        "text": "a.c:2: error: in [R1] (lint, new)\na.c:9: note: low [R1] (lint, new)\n",
+    }
+    three = [on("in", "a.c", 2), on("out", "b.c", 2), on("low", "a.c", 9, "note")]
+    more = ["--diff", "d", "--diff-scope", "files", "--fail-on", "note", "--max", "2"]
+    yield report("files of a change", log(run("lint", *three)), wanted, more, **given)
+    wanted = {
+        "markdown": has("## Gate: pass, 0 hits, 0 allowed", without=["outside"]),
+        "html": has("No results are reported.", without=["outside the"]),
+        "junit": has('tests="1" failures="0"'),
+    }
+    yield report("nothing of a change", log(run("lint", on("low", "b.c", 2, "note"))), wanted, ["--diff", "d"], **given)
+    # Sentences on runs and entries come first.
+    last = "1 suppression entry matches nothing.\n1 result outside the change would be a hit.\n"
+    wanted = {"markdown": has("1 run without results: ", last)}
+    given["suppress"] = rules({"ruleId": "none"})
+    logs = log({"tool": {"driver": {"name": "b"}}}, run("lint", on("out", "b.c", 2)))
+    yield report("what was not looked at of a change", logs, wanted, ["--diff", "d"], **given)
+
+
 def cases():
-    for part in (of_merges, of_results, of_lines, of_one_log, of_tables, of_junit, of_pages):
+    for part in (of_merges, of_results, of_lines, of_one_log, of_tables, of_junit, of_pages, of_changes):
         yield from part()

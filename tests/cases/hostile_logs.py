@@ -97,6 +97,8 @@ LONG = [
 ENDS = ["[" + "".join(map(chr, sorted({max(0, a - 1), a, b, b + 1}))) + "]" for a, b in HIDDEN]
 TEXTS = LINES + COMMANDS + TERMINAL + TAGS + MARKUP + DIRECTIONS
 TEXTS += ESCAPES + BRACES + BRACKETS + EDGES + XML + LONG + ENDS
+# Files that some of the URIs below may be.
+FILES = ["a.c", "a b.c", "\u00e9.c", ":a.c", "src/a.c", "b.c"]
 URIS = [
     "a.c",
     "a%20b.c",

@@ -1,8 +1,10 @@
-"""Small random inputs of a merge: logs, baselines and suppression files over a few strings, so that
+"""Small random inputs of a merge: logs, baselines, suppression files and diffs over a few strings, so that
 they often match, collide and clash. If the chance `wrong` isn't 0, a member may have any type.
 """
 
 import json
+
+from drawn_diffs import Diffs
 
 GUID = "0f14d0ab-9605-4a62-a9e4-5ed26688389b"
 GUIDS = [GUID, GUID.upper(), GUID.replace("-", ""), f"{{{GUID}}}", f"URN:uuid:{GUID}", "7" * 32]
@@ -21,6 +23,9 @@ KINDS = ["pass", "open", "informational", "notApplicable", "review", "fail"]
 STATUSES = ["accepted", "underReview", "rejected"]
 RULES = ["R1", "R2", "R1", "", "R1/a"]
 URIS = ["a.c", "gen/a.c", "gen/b.c", "", "é.c"]
+# Other forms of URIs, for places that only a change reads.
+OTHER_URIS = [*URIS, "b.c", "GEN/%61.c", "gen\\b.c", "../a.c", "file:///w/gen/a.c", "/gen/b.c", "x%20y/a.c#L3", "gen/"]
+FILES = ["a.c", "gen/a.c", "gen/b.c", "é.c", "b.c"]
 LINES = (("startLine", 0.9), ("startColumn", 0.2), ("endLine", 0.3), ("endColumn", 0.1))
 NAMES = ["f/v1", "f/v2", "", "f", "é", "\U0001f600", "\uffff"]
 TEXTS = ["", "a", "A", "é", "\U0001f600", "\uffff", "\0\x1f\x7f", '"\\/', "\b\f\n\r\t"]
@@ -228,6 +233,8 @@ class Inputs:
             ("partialFingerprints", 0.35, self.pairs),
             ("suppressions", 0.3, self.list([2, 4, 2, 1], self.suppression)),
             ("locations", 0.7, self.locations),
+            ("relatedLocations", 0.15, self.list([1, 3, 1], self.other_place)),
+            ("codeFlows", 0.1, self.list([1, 3], self.flow)),
             ("rank", 0.2, self.one(FRACTIONS)),
             ("properties", 0.3, lambda: self.anything(3)),
             *[("provenance", 0.4, self.of(index))] * self.has_rules,
@@ -262,8 +269,21 @@ class Inputs:
         regions = [("region", 0.6, region), ("contextRegion", 0.3, region)]
         physical = self.of(("artifactLocation", 0.9, artifact), *regions)
         first = self.value(self.of(("physicalLocation", 0.95, physical)))
-        others = self.any([[], [None], [1]])
+        others = self.any([[], [], [None], [1], [self.value(self.other_place)]])
         return others if self.chance(self.wrong) else [first, *others]
+
+    def other_place(self):
+        """A place that no check reads: a related one, one of a flow, or one after the first."""
+        artifact = self.of(("uri", 0.8, self.one(OTHER_URIS)), ("index", 0.3, self.one([0, 1, -1, "0"])))
+        region = self.of(("startLine", 0.8, self.line), ("endLine", 0.3, self.line))
+        physical = self.of(("artifactLocation", 0.9, artifact), ("region", 0.7, region))
+        return self.members(("physicalLocation", 0.9, physical))
+
+    def flow(self):
+        """A flow of some steps."""
+        step = self.of(("location", 0.8, self.other_place), ("index", 0.2, self.one([0, -1, "0"])))
+        threads = self.list([0, 3, 1], self.of(("locations", 0.9, self.list([1, 3, 2], step))))
+        return self.members(("threadFlows", 0.9, threads))
 
     def line(self):
         return self.any([1, 1, 1, 2, 3, 0, -1, 4294967295, 4294967296, "1", None, True, Raw("1.5"), Raw("1.0")])
@@ -342,6 +362,13 @@ class Inputs:
         if not self.chance(0.1 * bool(self.wrong)):
             found.setdefault("ruleId", self.any(RULES))
         return found
+
+    # ---- a diff
+
+    def diff(self):
+        """The bytes of a diff of files that results name, or of others."""
+        names = self.rng.sample(FILES, self.any([1, 1, 2, len(FILES)]))
+        return Diffs(self.rng, names, min(20 * self.wrong, 0.5)).diff()
 
     # ---- the text of a value
 

@@ -8,7 +8,9 @@ import subprocess
 import tempfile
 from pathlib import Path
 
+import reference_diff
 from inputs import Inputs
+from reference_change import Change
 from running import program
 
 LEVELS = ["none", "note", "warning", "error"]
@@ -22,10 +24,23 @@ class Wrong(Exception):
     """What a merge got wrong."""
 
 
-class Merged:
-    """The log that a merge wrote. Results are listed run by run. Copies are no findings."""
+class Diff:
+    """A diff in the file `name` of a folder, and which results are inside of its change, by the second reader."""
 
-    def __init__(self, text, policy):
+    def __init__(self, folder, data, name="d", scope="lines"):
+        self.data, self.name, self.scope = data, name, scope
+        (folder / name).write_bytes(data)
+        self.change = Change(data, scope)
+
+    def words(self):
+        return ["--diff", self.name, "--diff-scope", self.scope]
+
+
+class Merged:
+    """The log that a merge wrote. Results are listed run by run. Copies are no findings. With a change, hits are inside
+    of it."""
+
+    def __init__(self, text, policy, change=None):
         log = json.loads(text)
         self.policy, self.gate = policy, log["properties"]["gate"]
         self.runs = log["runs"]
@@ -35,12 +50,18 @@ class Merged:
         every = {(r, s): it for r, run in enumerate(results) for s, it in enumerate(run)}
         self.copies = set(map(tuple, self.gate.get("copies", [])))
         self.findings = {place: it for place, it in every.items() if place not in self.copies}
-        self.hits = {place for place, it in self.findings.items() if self.is_hit(it)}
+        every = {place for place, it in self.findings.items() if self.is_hit(it)}
+        self.hits = {place for place in every if change is None or self.is_inside(change, *place)}
+        self.outside = every - self.hits
 
     def is_hit(self, result):
         floor, states = self.policy
         counts = result["baselineState"] in states and LEVELS.index(result["level"]) >= LEVELS.index(floor)
         return counts and not is_suppressed(result)
+
+    def is_inside(self, change, run, number):
+        result = self.runs[run]["results"][number]
+        return change.is_inside(self.runs[run], result, result["baselineState"])
 
     def states(self):
         """The states of the findings that are not absent."""
@@ -106,7 +127,17 @@ class Case:
         path = self.folder / name
         return path.read_bytes() if path.is_file() else None
 
-    def merge(self, *words, logs=None, before=(), suppress=None, floor=None, states=None, how=None):
+    def drawn_diff(self, part=1.0):
+        """A diff that is accepted; None if the states don't allow one, and otherwise with that chance."""
+        if "absent" in self.listed or self.rng.random() >= part:
+            return None
+        while True:
+            try:
+                return Diff(self.folder, self.inputs.diff(), scope=self.rng.choice(["lines", "files"]))
+            except reference_diff.Fault:
+                pass
+
+    def merge(self, *words, logs=None, before=(), suppress=None, floor=None, states=None, how=None, diff=None):
         """The merged log of these inputs, or None if they are rejected."""
         floor, states = floor or self.floor, states or self.listed
         words = [*self.workers, *(self.how if how is None else how), *words]
@@ -114,6 +145,7 @@ class Case:
         words += ["--fail-on", floor, "--states", ",".join(states)]
         words += [word for it in before for word in ("--baseline", it)]
         words += ["--suppress", suppress] if suppress else []
+        words += diff.words() if diff else []
         words += ["--out", "o", *(logs or self.logs)]
         ran = subprocess.run([*self.command, *words], cwd=self.folder, capture_output=True, text=True)
         self.words, self.said = words, ran.stderr.splitlines()
@@ -121,8 +153,9 @@ class Case:
             return None
         if ran.returncode not in (0, 1):
             raise Wrong(f"status {ran.returncode}: {ran.stderr[:300]}")
-        merged = Merged((self.folder / "o").read_bytes(), (floor, states))
+        merged = Merged((self.folder / "o").read_bytes(), (floor, states), diff and diff.change)
         same(len(merged.hits), merged.gate["hits"], "the hits of the merged log")
+        same(len(merged.outside), merged.gate.get("diff", {}).get("outside", 0), "the results outside of the change")
         numbers = [sum(map(sum, it.values())) for it in merged.gate["counts"].values()]
         same(len(merged.findings), sum(numbers), "the counted results of the merged log")
         return merged

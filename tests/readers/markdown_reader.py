@@ -14,6 +14,7 @@ from html.parser import HTMLParser
 
 from cases import example
 from debian import had
+from reference_change import Change
 from reference_reports import Policy, Reports
 
 SECONDS = 300
@@ -46,7 +47,8 @@ def faults_beside_log(folder, words):
     given = lambda name, default: [it for last, it in zip(words, words[1:]) if last == name] or default
     roots, show, link = given("--root", []), given("--show", ["all"]), given("--link", [None])
     policy = Policy(gate["failOn"], gate["max"], tuple(gate["states"]), tuple(roots), *show, *link)
-    return markdown_faults((folder / "markdown").read_bytes(), Reports(log, policy))
+    change = Change((folder / "d").read_bytes(), gate["diff"]["scope"], roots) if "diff" in gate else None
+    return markdown_faults((folder / "markdown").read_bytes(), Reports(log, policy, change))
 
 
 @cache

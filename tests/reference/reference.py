@@ -15,7 +15,7 @@ from reference_arguments import NoArguments, Unread, replaced
 from reference_change import Change
 from reference_entries import read_rules
 from reference_json import Fault, compact, read_json, stripped
-from reference_life import Choice, Known, PastLimit, Renewed, failed, file_of, happened, is_hit, unused
+from reference_life import Choice, Known, PastLimit, Renewed, failed, file_of, happened, is_hit, reports, unused
 from reference_matching import fields, has_evidence, partners, region_and_snippet, state
 from reference_members import KINDS, LEVELS, STATES, STATUSES, guid, index, objects, of_kind, one_of, texts
 
@@ -524,7 +524,7 @@ class Usage(Exception):
 RANGES = {"today": (10000101, 99991231), "workers": (1, 64), "max": (0, 2**32 - 1), "matching": (2, 3)}
 VALUES = ("suppress", "out", "fail-on", "states", "suppress-out", "reason", "until", "unused", "known", "diff", "diff-scope")
 FLAGS = ("accept", "prune", "adopt", "explain", "require-success", "allow-external-properties", "once")
-# Only their names count here: reference_reports.py makes the reports.
+# The page is not written here: tests/program/reports reads it.
 REPORTS = ("text", "github", "markdown", "gitlab", "html", "junit", "azure")
 
 
@@ -758,6 +758,7 @@ class Outputs:
                 self.add("known log", given["known"], Known(merge, "adopt" in given))
         except PastLimit as past:
             raise Refused(past.place, past.cause) from None
+        self.files += reports(merge, given, request.roots)
         if "unused" in given:
             self.files.append(("unused report", given["unused"], unused(merge)))
         if merge.checks.once:

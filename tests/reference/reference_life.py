@@ -1,12 +1,13 @@
 """What a merge of the reference merger writes for later merges: the new suppression file, the lines of unused
 entries, and the known log. It follows the rules sentence by sentence and shares no code with the program."""
 
+import json
 from dataclasses import replace
 
 from reference_entries import read_rules
 from reference_json import compact, quoted, read_json, stripped
 from reference_matching import fields, telling
-from reference_reports import Found, Policy, reported, shown
+from reference_reports import Found, Policy, Reports, reported, shown
 
 MOST_ENTRIES = 10_000
 MOST_BYTES = 67_108_864
@@ -47,6 +48,21 @@ def is_hit(merge, finding):
     policy = merge.policy
     is_bad = LEVELS.index(finding.record.level) >= LEVELS.index(policy.fail_on)
     return finding.state in policy.states and is_bad and not finding.is_suppressed()
+
+
+# ---- Reports
+
+KINDS = ("text", "github", "markdown", "gitlab", "junit", "azure")
+
+
+def reports(merge, given, roots):
+    """The reports of a merge but the page: for each its place, its file and its text. Copies aren't reported."""
+    log = json.loads(merge.text())
+    for run, result in reversed(log["properties"]["gate"].get("copies", [])):
+        del log["runs"][run]["results"][result]
+    policy = Policy(merge.policy.fail_on, merge.policy.max, merge.policy.states, tuple(roots))
+    made = Reports(log, policy, merge.change)
+    return [(f"{it} report", given[it], getattr(made, it)().decode()) for it in KINDS if it in given]
 
 
 # ---- JSON for people

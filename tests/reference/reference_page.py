@@ -152,7 +152,9 @@ class PageOf:
         if not states:
             return "No state counts, so no result is a hit."
         levels = LEVELS_FROM[self.policy.fail_on]
-        return f"A hit is a result that is {joined(states)}, {levels}, and not suppressed."
+        scope = self.reports.log["properties"]["gate"].get("diff", {}).get("scope")
+        within = {None: "", "lines": ", on a line of the change", "files": ", in a file of the change"}[scope]
+        return f"A hit is a result that is {joined(states)}, {levels}{within}, and not suppressed."
 
     def links(self):
         """The links to the two lists, if there are both."""
@@ -172,9 +174,10 @@ class PageOf:
         of_runs = "run without results: nothing is known of what it looked for."
         of_more = "runs without results: nothing is known of what they looked for."
         of_entries = ("suppression entry matches nothing.", "suppression entries match nothing.")
-        return [counted(runs, of_runs, of_more)] * (runs > 0) + [
-            counted(entries, *of_entries)
-        ] * (entries > 0)
+        outside = found.get("diff", {}).get("outside", 0)
+        of_outside = ("result outside the change would be a hit.", "results outside the change would be hits.")
+        said = [counted(runs, of_runs, of_more)] * (runs > 0) + [counted(entries, *of_entries)] * (entries > 0)
+        return said + [counted(outside, *of_outside)] * (outside > 0)
 
     def boxes(self):
         """The boxes of each group that there is."""

@@ -456,7 +456,11 @@ class Reports:
         entries = "suppression entries match nothing."
         if unused == 1:
             entries = "suppression entry matches nothing."
-        said = (without, runs), (unused, entries)
+        outside = at(gate, "diff", "outside") or 0
+        others = "results outside the change would be hits."
+        if outside == 1:
+            others = "result outside the change would be a hit."
+        said = (without, runs), (unused, entries), (outside, others)
         return [f"{number} {sentence}" for number, sentence in said if number]
 
     def ends(self):
