@@ -15,16 +15,21 @@ _sarif_gate() {
         mapfile -t COMPREPLY < <(compgen -W 'error warning note none' -- "$word")
         return
         ;;
+    --diff-scope)
+        mapfile -t COMPREPLY < <(compgen -W 'lines files' -- "$word")
+        return
+        ;;
     --today | --ignore-fingerprint | --states | --max | --matching | --root | --show | --link | --reason | --until | --at | --rule | --workers)
         return
         ;;
     esac
     if [[ $word == -* ]]; then
-        mapfile -t COMPREPLY < <(compgen -W '--baseline --suppress --today --require-success --allow-external-properties
-            --ignore-fingerprint --fail-on --states --max --matching --once --out --root
-            --show --link --text --github --markdown --gitlab --html --junit --azure
-            --unused --accept --prune --reason --until --at --rule --adopt --suppress-out
-            --known --workers --explain --help -h --version -V' -- "$word")
+        mapfile -t COMPREPLY < <(compgen -W '--baseline --suppress --diff --today --require-success
+            --allow-external-properties --ignore-fingerprint --fail-on --states --max
+            --diff-scope --matching --once --out --root --show --link --text --github
+            --markdown --gitlab --html --junit --azure --unused --accept --prune --reason
+            --until --at --rule --adopt --suppress-out --known --workers --explain --help -h
+            --version -V' -- "$word")
         return
     fi
     if [[ $word == @* ]]; then

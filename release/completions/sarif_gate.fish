@@ -3,6 +3,7 @@
 
 complete -c sarif_gate -l baseline -r -F -d 'SARIF log of known results, for example an earlier merged log'
 complete -c sarif_gate -l suppress -r -F -d 'JSON file of accepted findings (suppressions), each with a reason and an optional expiry date'
+complete -c sarif_gate -l diff -r -F -d 'Diff of the change, as git diff writes it: only results inside it can be hits, and only they are reported'
 complete -c sarif_gate -l today -x -d 'Today\'s date, for example 20250131'
 complete -c sarif_gate -l require-success -d 'Reject a log if the analysis of a run failed: an invocation was not successful, or the run\'s results are missing or null'
 complete -c sarif_gate -l allow-external-properties -d 'Allow runs to name external property files, except for results, artifacts, invocations, driver and extensions'
@@ -10,6 +11,7 @@ complete -c sarif_gate -l ignore-fingerprint -x -d 'Ignore fingerprints and part
 complete -c sarif_gate -l fail-on -x -a 'error warning note none' -d 'Minimum level of a hit'
 complete -c sarif_gate -l states -x -d 'States of hits and reported results, joined by commas'
 complete -c sarif_gate -l max -x -d 'Allow up to NUMBER hits, from 0 to 4294967295'
+complete -c sarif_gate -l diff-scope -x -a 'lines files' -d 'What is inside the change of --diff: results on changed lines, or in changed files'
 complete -c sarif_gate -l matching -x -d 'How results match the baseline: 2 is by fingerprints or place, 3 is by snippets and regions too'
 complete -c sarif_gate -l once -d 'Match and count equal results at one place only once, such as those of a header that many files include'
 complete -c sarif_gate -l out -r -F -d 'Write the merged log to FILE'
