@@ -1,0 +1,23 @@
+//! The results of a merge as conditions see them.
+use sarif_model::{Level, Record, State};
+use sarif_policy::Rating;
+
+/// A result of a merge as conditions see it.
+pub struct JudgedResult<'a> {
+    /// What is read of it.
+    pub record: &'a Record,
+    /// Its state.
+    pub state: State,
+    /// Its level.
+    pub level: Level,
+    /// Whether it is suppressed.
+    pub suppressed: bool,
+    /// Its security severity.
+    pub rating: &'a Rating,
+    /// Whether it is inside the change by the changed lines.
+    pub in_lines: bool,
+    /// Whether it is inside the change by the changed files.
+    pub in_files: bool,
+    /// Whether its tool was heard, and it meets the conditions of no suppression entry. Only absent results are asked.
+    pub is_gone: bool,
+}
