@@ -15,9 +15,10 @@ from reference_arguments import NoArguments, Unread, replaced
 from reference_change import Change
 from reference_entries import read_rules
 from reference_json import Fault, compact, read_json, stripped
-from reference_life import Choice, Known, PastLimit, Renewed, failed, file_of, happened, is_hit, reports, unused
+from reference_life import Choice, Known, PastLimit, Renewed, failed, file_of, happened, heard, reports, tool_of, unused
 from reference_matching import fields, has_evidence, partners, region_and_snippet, state
 from reference_members import KINDS, LEVELS, STATES, STATUSES, guid, index, objects, of_kind, one_of, texts
+from reference_policy import HIT, OTHER, STOPS, Condition, Decided, PolicyFault, rating_of, read_policy
 
 MOST_LOGS = 1_000
 MOST_RUNS = 10_000
@@ -183,6 +184,7 @@ class Record:
             identity = head.rule(descriptor)["id"] if descriptor else ""
         self.rule = identity
         self.level = head.level(self.kind, own, descriptor, invocation)
+        self.rating = rating_of(result, head.rule(descriptor) if descriptor else None)
         self.place = self.placed(head, location, artifact)
         self.region, self.snippet = region_and_snippet(result, self.place)
 
@@ -309,9 +311,9 @@ class Diff:
 
 
 class Merge:
-    """A merge of sources, which are byte strings."""
+    """A merge of sources, which are byte strings. `conditions` is a policy file, which takes the place of `policy`."""
 
-    def __init__(self, logs, baselines, suppress=None, policy=None, today=None, checks=None, diff=None):
+    def __init__(self, logs, baselines, suppress=None, policy=None, today=None, checks=None, diff=None, conditions=None):
         self.policy, self.checks, self.today = policy or Policy(), checks or Checks(), today
         check_number(logs, baselines)
         self.runs, self.results = 0, 0
@@ -321,6 +323,7 @@ class Merge:
         ]
         self.entries = self.read_entries(suppress, today)
         self.file = file_of(suppress)
+        self.conditions = None if conditions is None else self.read_policy(conditions, diff is not None)
         self.change = None if diff is None else diff.read()
         self.inputs = [run for log in logs for run in log]
         self.before = [run for log in baselines for run in log]
@@ -350,6 +353,12 @@ class Merge:
         except Fault as fault:
             number = "" if fault.entry is None else f", entry {fault.entry}"
             raise Refused(f"suppressions{number}", fault.cause) from None
+
+    def read_policy(self, source, has_diff):
+        try:
+            return read_policy(source, has_diff)
+        except PolicyFault as fault:
+            raise Refused(fault.place, fault.cause) from None
 
     def findings(self, logs, name, is_baseline):
         found = []
@@ -434,18 +443,53 @@ class Merge:
         for finding in self.merged():
             side = "suppressed" if finding.is_suppressed() else "active"
             self.counts[finding.state][side][3 - LEVELS.index(finding.record.level)] += 1
-        shown = 4 - LEVELS.index(self.policy.fail_on)
-        self.hits = sum(sum(self.counts[it]["active"][:shown]) for it in self.policy.states)
-        if self.change is not None:
-            would_be = [it for it in self.merged() if is_hit(self, it)]
-            self.outside = sum(not self.is_inside(it) for it in would_be)
-            self.hits -= self.outside
-        self.verdict = "fail" if self.hits > self.policy.max else "pass"
         self.without = sum(run.get("results") is None for run in self.inputs)
+        self.decided = [Decided(it, self) for it in self.conditions or [self.of_options()]]
+        self.is_hit_of = {id(it) for decided in self.decided for it in decided.hits}
+        self.stopping = {id(it) for decided in self.decided if decided.fails for it in decided.hits}
+        self.hits = len(self.is_hit_of)
+        self.outside = self.decided[0].outside
+        self.verdict = "fail" if any(it.fails for it in self.decided) else "pass"
 
-    def is_inside(self, finding):
-        """Returns whether a finding is inside of the change; without a change all are."""
-        return self.change is None or self.change.is_inside(finding.run, finding.value, finding.state)
+    def of_options(self):
+        """The options as a condition."""
+        scope = None if self.change is None else self.change.scope
+        return Condition(None, self.policy.fail_on, self.policy.states, self.policy.max, scope)
+
+    def is_hit(self, finding):
+        return id(finding) in self.is_hit_of
+
+    def would_be_hit(self, finding):
+        """Returns whether a finding would be a hit if no condition looked at the change."""
+        return any(it.condition.would_be_hit(finding) for it in self.decided)
+
+    def standing(self, finding):
+        """What a finding does to the gate; None if it isn't reported."""
+        if self.is_hit(finding):
+            return STOPS if id(finding) in self.stopping else HIT
+        conditions = [it.condition for it in self.decided]
+        is_reported = any(it.reports(finding) and self.is_inside(finding, it.diff) for it in conditions)
+        return OTHER if is_reported else None
+
+    def is_inside(self, finding, scope):
+        """Returns whether a finding is inside of the change in this scope; without a scope all are."""
+        return scope is None or self.change.is_inside(finding.run, finding.value, finding.state, scope)
+
+    def is_fixed(self, finding):
+        """Returns whether an absent finding went away: its tool was heard, and no entry of the suppression file has
+        conditions that it meets."""
+        is_accepted = any(it.has_met_conditions(finding.record) for it in self.entries)
+        return heard(self, tool_of(finding.run)) and not is_accepted
+
+    def unchecked(self):
+        """The number of active current findings that no condition checks."""
+        active = [it for it in self.current if not it.is_suppressed()]
+        return sum(not any(one.condition.checks(it.record) for one in self.decided) for it in active)
+
+    def unused_filters(self):
+        """The number of filters that match no current finding."""
+        filters = [it for one in self.decided for it in one.condition.filters()]
+        return sum(not any(filter.is_met(it.record) for it in self.current) for filter in filters)
 
     def merged(self):
         """The findings of the merged log, in its order."""
@@ -463,23 +507,31 @@ class Merge:
         runs += [self.written(run, self.every_absent) for run in self.before if id(run) in absent]
         gate = {
             "counts": self.counts,
-            "failOn": self.policy.fail_on,
             "hits": self.hits,
-            "max": self.policy.max,
             "runsWithoutResults": self.without,
-            "states": [state for state in STATES if state in self.policy.states],
             "unusedSuppressions": self.unused,
             "verdict": self.verdict,
+            **self.of_policy(),
         }
         if self.checks.once:
             gate["copies"] = self.copies()
         if self.change is not None:
-            gate["diff"] = {**self.changed(), "scope": self.change.scope}
+            scope = {} if self.conditions else {"scope": self.change.scope}
+            gate["diff"] = {**self.changed(), **scope}
         return compact({"properties": {"gate": gate}, "runs": runs, "version": "2.1.0"})
 
+    def of_policy(self):
+        """The members of the gate object that the policy decides."""
+        if self.conditions:
+            objects = [it.object() for it in self.decided]
+            return {"conditions": objects, "unchecked": self.unchecked(), "unusedFilters": self.unused_filters()}
+        states = [state for state in STATES if state in self.policy.states]
+        return {"failOn": self.policy.fail_on, "max": self.policy.max, "states": states}
+
     def changed(self):
-        """The numbers of the change."""
-        return {"files": len(self.change.files), "lines": self.change.lines, "outside": self.outside}
+        """The numbers of the change. With a policy each condition has its own number of findings outside."""
+        outside = {} if self.conditions else {"outside": self.outside}
+        return {"files": len(self.change.files), "lines": self.change.lines, **outside}
 
     def summary(self):
         lines = ["state           error    warning       note       none suppressed\n"]
@@ -489,8 +541,11 @@ class Merge:
             lines.append(f"{state:<10}" + "".join(f"{number:>11}" for number in numbers) + "\n")
         if self.change is not None:
             lines.append("diff: " + ", ".join(f"{name} {n}" for name, n in self.changed().items()) + "\n")
-        lines.append(f"gate: {self.verdict}, hits {self.hits}, max {self.policy.max}\n")
-        return "".join(lines)
+        last = f"max {self.policy.max}"
+        if self.conditions:
+            lines += [it.line() for it in self.decided]
+            last = f"conditions {len(self.decided)}, failed {sum(it.fails for it in self.decided)}"
+        return "".join([*lines, f"gate: {self.verdict}, hits {self.hits}, {last}\n"])
 
     def status(self):
         return 0 if self.verdict == "pass" else 1
@@ -507,9 +562,9 @@ def check_number(logs, baselines):
 USAGE = """Usage: sarif_gate [--baseline F]... [--suppress F] [--today N] [--workers N]
     [--fail-on L] [--states LIST] [--max N] [--suppress-out F] [--accept] [--prune]
     [--reason TEXT] [--until N] [--at PLACE]... [--rule ID]... [--root PREFIX]...
-    [--unused F] [--known F] [--adopt] [--require-success]
+    [--show WHICH] [--unused F] [--known F] [--adopt] [--require-success]
     [--allow-external-properties] [--matching N] [--ignore-fingerprint NAME]... [--once]
-    [--diff F] [--diff-scope SCOPE] [--explain] --out F LOG... [@FILE]...
+    [--diff F] [--diff-scope SCOPE] [--policy F] [--explain] --out F LOG... [@FILE]...
 """
 
 
@@ -523,6 +578,8 @@ class Usage(Exception):
 
 RANGES = {"today": (10000101, 99991231), "workers": (1, 64), "max": (0, 2**32 - 1), "matching": (2, 3)}
 VALUES = ("suppress", "out", "fail-on", "states", "suppress-out", "reason", "until", "unused", "known", "diff", "diff-scope")
+VALUES += ("policy", "show")
+CHOICES = {"fail-on": LEVELS, "diff-scope": ("lines", "files"), "show": ("hits", "all")}
 FLAGS = ("accept", "prune", "adopt", "explain", "require-success", "allow-external-properties", "once")
 # The page is not written here: tests/program/reports reads it.
 REPORTS = ("text", "github", "markdown", "gitlab", "html", "junit", "azure")
@@ -581,7 +638,7 @@ class Request:
             self.given[name] = self.checked(name, value)
 
     def checked(self, name, value):
-        if name == "fail-on" and value not in LEVELS or name == "diff-scope" and value not in ("lines", "files"):
+        if name in CHOICES and value not in CHOICES[name]:
             raise Usage(2)
         if name == "states":
             return listed(value)
@@ -607,6 +664,7 @@ class Request:
             and not (has("known") and has("accept"))
             and (has("known") or not has("adopt"))
             and (has("diff") or not has("diff-scope"))
+            and not (has("policy") and any(map(has, ("states", "fail-on", "max", "diff-scope"))))
             and not (has("diff") and "absent" in self.given.get("states", ()))
             and not (self.given.get("diff") == "-" and "-" in self.logs)
         )
@@ -623,7 +681,7 @@ class Request:
         return any(self.replaces(name, self.given[name]) for name in names)
 
     def replaces(self, name, file):
-        if file == self.suppress and name != "suppress-out":
+        if file == self.suppress and name != "suppress-out" or file == self.given.get("policy"):
             return True
         if file == "-":
             return False
@@ -681,10 +739,12 @@ def asked(request):
         read_file(f"baseline {number}", name) for number, name in enumerate(request.baselines)
     ]
     suppress = None if request.suppress is None else read_file("suppressions", request.suppress)
+    conditions = request.given.get("policy")
+    conditions = None if conditions is None else read_file("policy", conditions)
     name, diff = request.given.get("diff"), None
     if name is not None:
         diff = Diff(read_file("diff", name, True), request.given.get("diff-scope", "lines"), request.roots)
-    return Merge(logs, baselines, suppress, request.policy, request.today, request.checks, diff)
+    return Merge(logs, baselines, suppress, request.policy, request.today, request.checks, diff, conditions)
 
 
 def write_file(name, text, place="output"):

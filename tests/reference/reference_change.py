@@ -98,24 +98,24 @@ class Change:
             return True
         return link and file[-1] in path
 
-    def meets(self, place):
-        """Returns whether a place that has a path meets the change."""
+    def meets(self, place, scope):
+        """Returns whether a place that has a path meets the change in this scope."""
         paths = [(parts(it), absolute) for it, absolute in without_roots(readings(place.uri), self.roots)]
         for file, is_whole, link, lines in self.files:
             if any(self.may_be(file, link, *path) for path in paths):
-                if self.scope == "files" or place.lines is None or is_whole:
+                if scope == "files" or place.lines is None or is_whole:
                     return True
                 if any(place.lines[0] <= line <= place.lines[1] for line in lines):
                     return True
         return False
 
-    def is_inside(self, run, result, state):
-        """Returns whether a result of this run is inside."""
-        return state != "absent" and not self.is_outside(run, result)
+    def is_inside(self, run, result, state, scope=None):
+        """Returns whether a result of this run is inside, in this scope or in that of the change."""
+        return state != "absent" and not self.is_outside(run, result, scope or self.scope)
 
-    def is_outside(self, run, result):
+    def is_outside(self, run, result, scope):
         locations = [Place(run, it) for it in listed(result, "locations")]
-        if not locations or not all(it.uri is not None and not self.meets(it) for it in locations):
+        if not locations or not all(it.uri is not None and not self.meets(it, scope) for it in locations):
             return False
         flows = [flow for it in listed(result, "codeFlows") for flow in listed(it, "threadFlows")]
         steps = [step for flow in flows for step in listed(flow, "locations")]
@@ -124,4 +124,4 @@ class Change:
             return False
         others = [*listed(result, "relatedLocations"), *[member(step, "location") for step in steps]]
         places = [Place(run, it) for it in others]
-        return not any(it.uri is not None and self.meets(it) for it in places)
+        return not any(it.uri is not None and self.meets(it, scope) for it in places)

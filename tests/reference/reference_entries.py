@@ -72,6 +72,10 @@ class Entry:
 
     def is_met(self, record):
         """Whether the entry isn't expired and its conditions hold, regardless of `max`."""
+        return not self.is_expired and self.has_met_conditions(record)
+
+    def has_met_conditions(self, record):
+        """Whether the conditions of the entry hold, even if it is expired."""
         uri = record.place[0]
         text, name, arguments = record.message
         wanted = (
@@ -84,8 +88,7 @@ class Entry:
             (self.arguments or None, list(arguments)),
         )
         return (
-            not self.is_expired
-            and all(value is None or value == has for value, has in wanted)
+            all(value is None or value == has for value, has in wanted)
             and (self.prefix is None or uri is not None and uri.startswith(self.prefix))
             and all(record.full.get(name) == text for name, text in self.full.items())
             and all(record.partial.get(name) == text for name, text in self.partial.items())

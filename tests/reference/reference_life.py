@@ -11,7 +11,6 @@ from reference_reports import Found, Policy, Reports, reported, shown
 
 MOST_ENTRIES = 10_000
 MOST_BYTES = 67_108_864
-LEVELS = ("none", "note", "warning", "error")
 
 
 class PastLimit(Exception):
@@ -44,12 +43,6 @@ def heard(merge, tool):
     return bool(runs) and not any(map(failed, runs))
 
 
-def is_hit(merge, finding):
-    policy = merge.policy
-    is_bad = LEVELS.index(finding.record.level) >= LEVELS.index(policy.fail_on)
-    return finding.state in policy.states and is_bad and not finding.is_suppressed()
-
-
 # ---- Reports
 
 KINDS = ("text", "github", "markdown", "gitlab", "junit", "azure")
@@ -60,8 +53,10 @@ def reports(merge, given, roots):
     log = json.loads(merge.text())
     for run, result in reversed(log["properties"]["gate"].get("copies", [])):
         del log["runs"][run]["results"][result]
-    policy = Policy(merge.policy.fail_on, merge.policy.max, merge.policy.states, tuple(roots))
-    made = Reports(log, policy, merge.change)
+    policy = merge.policy
+    policy = Policy(policy.fail_on, policy.max, policy.states, tuple(roots), given.get("show", "all"))
+    standings = [merge.standing(it) for it in merge.merged()] if merge.conditions else None
+    made = Reports(log, policy, merge.change, standings)
     return [(f"{it} report", given[it], getattr(made, it)().decode()) for it in KINDS if it in given]
 
 
@@ -159,7 +154,7 @@ class Renewed:
     def __init__(self, merge, accept=False, prune=False, reason=None, until=None, choice=None):
         goes = [prune and self.goes(merge, number) for number in range(len(merge.entries))]
         kept = [it for it, is_gone in zip(merge.file["suppressions"], goes) if not is_gone]
-        hits = [it for it in merge.merged() if accept and is_hit(merge, it) and merge.is_inside(it)]
+        hits = [it for it in merge.merged() if accept and merge.is_hit(it)]
         chosen = able(choice.chosen(hits) if choice else hits)
         added = []
         seen = set()
@@ -229,7 +224,7 @@ def left_out(merge, finding, adopt):
     is_lasting = bool(lasting) and all(it == "accepted" for it in lasting)
     if finding.is_suppressed() and not is_lasting:
         return True
-    stops = is_hit(merge, finding) or finding.is_suppressed()
+    stops = merge.would_be_hit(finding) or finding.is_suppressed()
     return not adopt and (finding.state == "new" or not finding.is_sure) and stops
 
 

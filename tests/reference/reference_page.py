@@ -144,10 +144,14 @@ class PageOf:
         self.rows = self.hit_rows + self.other_rows
 
     def heading(self):
-        verdict, hits = self.reports.verdict(), hits_text(self.reports.hits())
-        return f"Gate: {verdict}, {hits}, {self.policy.max} allowed"
+        return self.reports.gate()
+
+    def has_policy_file(self):
+        return self.reports.conditions() is not None
 
     def reason(self):
+        if self.has_policy_file():
+            return "A hit is a result that meets a condition of the policy and is not suppressed."
         states = [it for it in STATES if it in self.policy.states]
         if not states:
             return "No state counts, so no result is a hit."
@@ -163,21 +167,19 @@ class PageOf:
         return list(zip(("#hits", "#others"), texts)) if both else []
 
     def marked(self):
-        """The states and levels whose active results are hits."""
+        """The states and levels whose active results are hits. A condition asks for more than these."""
+        if self.has_policy_file():
+            return set()
         least = LEVELS.index(self.policy.fail_on)
         return {(state, level) for state in self.policy.states for level in LEVELS[least:]}
 
     def sentences(self):
-        """What wasn't looked at."""
-        found = self.reports.log["properties"]["gate"]
-        runs, entries = found["runsWithoutResults"], found["unusedSuppressions"]
-        of_runs = "run without results: nothing is known of what it looked for."
-        of_more = "runs without results: nothing is known of what they looked for."
-        of_entries = ("suppression entry matches nothing.", "suppression entries match nothing.")
-        outside = found.get("diff", {}).get("outside", 0)
-        of_outside = ("result outside the change would be a hit.", "results outside the change would be hits.")
-        said = [counted(runs, of_runs, of_more)] * (runs > 0) + [counted(entries, *of_entries)] * (entries > 0)
-        return said + [counted(outside, *of_outside)] * (outside > 0)
+        """What wasn't looked at, as in Markdown."""
+        return self.reports.notes()
+
+    def conditions(self):
+        """The texts of the table of the conditions, each row with its cells."""
+        return self.reports.condition_cells()
 
     def boxes(self):
         """The boxes of each group that there is."""
@@ -187,11 +189,8 @@ class PageOf:
 
     def lists(self):
         """Each list that there is."""
-        stops = counted(len(self.hits), "hit stops", "hits stop") + " this change"
-        passes = f"{hits_text(len(self.hits))}, within the {self.policy.max} allowed"
-        of_hits = stops if self.reports.verdict() == "fail" else passes
         found, number, room = [], 1, MOST_OPEN
-        named = [("hits", of_hits, self.hit_rows)]
+        named = [("hits", self.hits_heading(), self.hit_rows)]
         named.append(("others", others_text(len(self.others)), self.other_rows))
         for name, heading, rows in named:
             if not rows:
@@ -203,6 +202,16 @@ class PageOf:
             found.append(ListOf(name, heading, pairs_in(rows), index, groups, more))
             number, room = number + len(groups), 0
         return found
+
+    def hits_heading(self):
+        """How many hits there are, and how many of them stop the change."""
+        hits, stop = len(self.hits), sum(it.stops for it in self.hits)
+        if not stop:
+            limits = "limits" if self.has_policy_file() else f"{self.policy.max} allowed"
+            return f"{hits_text(hits)}, within the {limits}"
+        if stop == hits:
+            return counted(hits, "hit stops", "hits stop") + " this change"
+        return f"{hits_text(hits)}, {counted(stop, 'of them stops', 'of them stop')} this change"
 
     def rest(self):
         """The lines after the lists, as many as there are."""

@@ -13,11 +13,12 @@ import hashlib
 import json
 import re
 import sys
-from dataclasses import dataclass, field
+from dataclasses import dataclass, field, replace
 from typing import Optional
 
 from reference_json import compact
 from reference_links import anchor, is_address, place_address
+from reference_policy import OTHER, STOPS
 
 LEVELS = ("none", "note", "warning", "error")
 STATES = ("new", "unchanged", "updated", "absent")
@@ -299,6 +300,7 @@ class Reported:
     line: Optional[int]
     column: Optional[int]
     is_hit: bool
+    stops: bool
     link: Optional[str]
     name: Optional[str] = None
     address: Optional[str] = None
@@ -329,6 +331,7 @@ def reported(found, policy):
         line=line,
         column=None if line is None else found.number("startColumn"),
         is_hit=LEVELS.index(found.level) >= LEVELS.index(policy.fail_on),
+        stops=False,
         link=link_of(found),
         name=None if name is None else shown(name, MOST_NAME_CHARACTERS),
         address=place_address(policy.link, path, line) if policy.link and is_exact else None,
@@ -383,11 +386,14 @@ def link_of(found):
 
 @dataclass
 class Reports:
-    """The reports of a merged log under a policy. With a change, only what is inside of it is reported."""
+    """The reports of a merged log under a policy. With a change, only what is inside of it is reported. With a policy file,
+    `standings` has for each result of the log what it does to the gate: it stops it, is a hit, or is another that is
+    reported; or None, if it isn't reported."""
 
     log: dict
     policy: Policy
     change: object = None
+    standings: Optional[list] = None
     found: list = field(init=False)
     results: list = field(init=False)
     unshown: int = field(init=False)
@@ -396,13 +402,24 @@ class Reports:
         self.found = [
             Found(run, result) for run in self.log["runs"] for result in run.get("results", [])
         ]
+        every = self.by_options() if self.standings is None else self.by_standings()
+        self.results = [it for it in every if it.is_hit or self.policy.show == "all"]
+        self.unshown = len(every) - len(self.results)
+
+    def by_options(self):
+        """The reported results. If the gate fails, each hit stops the change."""
         every = [
             reported(it, self.policy)
             for it in self.found
             if it.is_active() and it.state in self.policy.states and self.is_inside(it)
         ]
-        self.results = [it for it in every if it.is_hit or self.policy.show == "all"]
-        self.unshown = len(every) - len(self.results)
+        fails = sum(it.is_hit for it in every) > self.policy.max
+        return [replace(it, stops=it.is_hit and fails) for it in every]
+
+    def by_standings(self):
+        """The reported results of a policy file."""
+        pairs = [(reported(it, self.policy), standing) for it, standing in zip(self.found, self.standings, strict=True) if standing]
+        return [replace(it, is_hit=standing != OTHER, stops=standing == STOPS) for it, standing in pairs]
 
     def is_inside(self, found):
         return self.change is None or self.change.is_inside(found.run, found.result, found.state)
@@ -411,7 +428,11 @@ class Reports:
         return sum(it.is_hit for it in self.results)
 
     def verdict(self):
-        return "fail" if self.hits() > self.policy.max else "pass"
+        return "fail" if any(it.stops for it in self.results) else "pass"
+
+    def conditions(self):
+        """The conditions of the gate object; None without a policy file."""
+        return at(self.log, "properties", "gate", "conditions")
 
     def counts(self):
         """For each state the numbers of active errors, warnings, notes and others, and of suppressed results."""
@@ -422,8 +443,9 @@ class Reports:
         return counted
 
     def listed(self):
-        """The shown results in the order of reports: the hits first, and of each the worst level first."""
-        return sorted(self.results, key=lambda it: (not it.is_hit, -LEVELS.index(it.level)))
+        """The shown results in the order of reports: first what stops the change, then the other hits, and of each the
+        worst level first."""
+        return sorted(self.results, key=lambda it: (not it.stops, not it.is_hit, -LEVELS.index(it.level)))
 
     def text(self):
         return "".join(text_line(it) for it in self.listed()).encode()
@@ -436,6 +458,8 @@ class Reports:
         lines += ["| | error | warning | note | none | suppressed |", "|---|--:|--:|--:|--:|--:|"]
         lines += [markdown_row(state, *numbers) for state, numbers in self.counts().items()]
         lines += [""] * bool(self.notes()) + self.notes()
+        if self.conditions():
+            lines += ["", markdown_row(*OF_CONDITIONS), "|---|---|--:|--:|--:|", *self.condition_rows()]
         if self.results:
             lines += ["", markdown_row("hit", "level", *SHOWN, "state"), "|---" * 7 + "|"]
             lines += self.markdown_rows()
@@ -443,8 +467,21 @@ class Reports:
         return "".join(f"{line}\n" for line in lines).encode()
 
     def gate(self):
-        """The verdict, the hits and the maximum, in one line."""
-        return f"Gate: {self.verdict()}, {counted(self.hits(), 'hit')}, {self.policy.max} allowed"
+        """The verdict, the hits and the maximum or the number of failed conditions, in one line."""
+        conditions, last = self.conditions(), f"{self.policy.max} allowed"
+        if conditions:
+            failed = sum(it["verdict"] == "fail" for it in conditions)
+            last = f"{failed} of {counted(len(conditions), 'condition')} failed"
+        return f"Gate: {self.verdict()}, {counted(self.hits(), 'hit')}, {last}"
+
+    def condition_rows(self):
+        """A row for each condition; none without a policy file."""
+        return [markdown_row(coded(name), *cells) for name, *cells in self.condition_cells()]
+
+    def condition_cells(self):
+        """The texts of the row of each condition."""
+        names = ("name", "verdict", "hits", "limit", "outside")
+        return [[str(it.get(name, "")) for name in names] for it in self.conditions() or []]
 
     def notes(self):
         """Sentences on what wasn't looked at."""
@@ -460,8 +497,13 @@ class Reports:
         others = "results outside the change would be hits."
         if outside == 1:
             others = "result outside the change would be a hit."
-        said = (without, runs), (unused, entries), (outside, others)
-        return [f"{number} {sentence}" for number, sentence in said if number]
+        filters, unchecked = at(gate, "unusedFilters") or 0, at(gate, "unchecked") or 0
+        of_filters = "filters of the policy match nothing."
+        if filters == 1:
+            of_filters = "filter of the policy matches nothing."
+        said = (without, runs), (unused, entries), (filters, of_filters), (outside, others)
+        found = [f"{number} {sentence}" for number, sentence in said if number]
+        return found + [f"No condition checks {counted(unchecked, 'active result')}."] * (unchecked > 0)
 
     def ends(self):
         """The sentences after the table: on results without a row, on those that aren't shown, and on accepting hits."""
@@ -471,7 +513,8 @@ class Reports:
 
     def markdown_rows(self):
         """The rows of the first listed results, as many as fit."""
-        rows, room, left = [], MOST_MARKDOWN_BYTES, MOST_CODED_ROWS
+        rows, left = [], MOST_CODED_ROWS
+        room = MOST_MARKDOWN_BYTES - sum(len(it.encode()) + 1 for it in self.condition_rows())
         for it in self.listed()[:MOST_MARKDOWN_ROWS]:
             place = anchor(it.address, None, coded(it.place()))
             rule = anchor(it.link, None if it.name is None else marked(it.name), coded(it.rule))
@@ -508,9 +551,9 @@ class Reports:
         return found or [Suite("sarif_gate", [TestCase("gate", "sarif_gate")])]
 
     def case(self, name, it):
-        """A result as a test case: a hit fails, or is skipped where the gate passes."""
+        """A result as a test case: a hit that stops the change fails, and another hit is skipped."""
         case = TestCase(name, it.tool if it.path is None else it.path, it.path, it.line)
-        if it.is_hit and self.verdict() == "fail":
+        if it.stops:
             case.failure = (it.level, it.message, text_line(it).removesuffix("\n"))
         elif it.is_hit:
             case.skipped = it.message
@@ -536,6 +579,7 @@ class Reports:
 
 
 SHOWN = ("place", "rule", "message", "tool")
+OF_CONDITIONS = ("condition", "verdict", "hits", "limit", "outside")
 COMMANDS = {"error": "error", "warning": "warning", "note": "notice", "none": "notice"}
 SEVERITIES = {"error": "critical", "warning": "major", "note": "minor", "none": "info"}
 

@@ -62,6 +62,7 @@ fn sources_of(alloc: Global, given: &MergeInput) -> Result<SourceBytes, AllocErr
         logs: Vec::new(alloc),
         baselines: Vec::new(alloc),
         suppressions: None,
+        policy: None,
         diff: None,
     };
     sources.logs.push(given.log.as_bytes().to_vec(alloc)?)?;
@@ -91,6 +92,7 @@ pub fn merged_to<R: Threads + Wait + Sync>(
             logs: vec![in alloc; Counted::new(log)]?,
             baselines: Vec::new(alloc),
             suppressions: Some(Counted::new(given.suppressions.as_bytes())),
+            policy: None,
             diff: None,
         };
         write_merged(rt, alloc, seed, &mut readers)
@@ -99,6 +101,7 @@ pub fn merged_to<R: Threads + Wait + Sync>(
             logs: vec![in alloc; Counted::new(log)]?,
             baselines: vec![in alloc; Counted::new(given.baseline.as_bytes())]?,
             suppressions: None,
+            policy: None,
             diff: None,
         };
         write_merged(rt, alloc, seed, &mut readers)

@@ -1,9 +1,12 @@
+pub mod AnyChanged
 pub mod FoundMore
 pub mod GrowthMore
 pub mod IndexMore
 pub mod JoinedMore
 pub mod KeysMore
+pub mod KnownMore
 pub mod LinksMore
+pub mod OnceMore
 pub mod OutsideMore
 pub mod PartsMore
 pub mod PathsMore

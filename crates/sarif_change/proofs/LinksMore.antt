@@ -25,20 +25,6 @@ pub none_linked : (links : Option (List ChangedFile)) (lines : Option Span) (pie
 none_linked None lines pieces h = any_no pieces
 none_linked (Some files) lines pieces h = grind arith
 
-module _ (links : Option (List ChangedFile)) (lines : Option Span) (rest part after : List ℕ) where
-  pub found_here : pieces_of rest ≡ part ∷ pieces_of after → true ≡ list_any (found_at (part ++ 47 ∷ []) lines) (tree_files links)
-      → true ≡ list_any (λ part. list_any (found_at (part ++ 47 ∷ []) lines) (tree_files links)) (pieces_of rest)
-  found_here cut is = rw (cut, ← is) refl
-
-  pub goes : pieces_of rest ≡ part ∷ pieces_of after → false ≡ list_any (found_at (part ++ 47 ∷ []) lines) (tree_files links)
-      → list_any (λ part. list_any (found_at (part ++ 47 ∷ []) lines) (tree_files links)) (pieces_of after)
-      ≡ list_any (λ part. list_any (found_at (part ++ 47 ∷ []) lines) (tree_files links)) (pieces_of rest)
-  goes cut is = rw (cut, ← is) refl
-
-pub at_end : (links : Option (List ChangedFile)) (lines : Option Span) (rest : List ℕ) → length rest ≡ 0
-    → false ≡ list_any (λ part. list_any (found_at (part ++ 47 ∷ []) lines) (tree_files links)) (pieces_of rest)
-at_end links lines rest none = rw (none_left 47 rest none) refl
-
 -- ---- what an index finds
 
 one_clean : (parts : List (List ℕ)) → list_all has_no_slash parts ≡ true → list_all has_no_slash (take 1 parts) ≡ true
@@ -66,17 +52,3 @@ path_found files links sections lines absolute parts key sought index clean is l
     ∙ ap (λ b. list_any (is_ending (sought_parts (absolute, parts)) lines) sections || b)
     (ap (λ k. list_any (linked links lines) (pieces_of k)) is ∙ (ap (λ ps. list_any (linked links lines) ps) (pieces_joined parts clean)
     ∙ links_found files links sections lines parts index clean)))
-
-pub path_by_end : (files links : Option (List ChangedFile)) (sections : List Section) (lines : Option Span) (absolute : Bool)
-    (parts : List (List ℕ)) (key sought : List ℕ)
-    → IsIndex files links sections → list_all has_no_slash parts ≡ true → key ≡ joined parts → sought ≡ joined (sought_parts (absolute, parts))
-    → list_any (found_at sought lines) (tree_files files) ≡ true → true ≡ is_found sections lines (absolute, parts)
-path_by_end files links sections lines absolute parts key sought index clean is looked h =
-    sym (ap (λ b. b || list_any (linked links lines) (pieces_of key)) h) ∙ path_found files links sections lines absolute parts key sought index clean is looked
-
-pub path_by_link : (files links : Option (List ChangedFile)) (sections : List Section) (lines : Option Span) (absolute : Bool)
-    (parts : List (List ℕ)) (key sought : List ℕ)
-    → IsIndex files links sections → list_all has_no_slash parts ≡ true → key ≡ joined parts → sought ≡ joined (sought_parts (absolute, parts))
-    → list_any (found_at sought lines) (tree_files files) ≡ false → list_any (linked links lines) (pieces_of key) ≡ is_found sections lines (absolute, parts)
-path_by_link files links sections lines absolute parts key sought index clean is looked h =
-    sym (ap (λ b. b || list_any (linked links lines) (pieces_of key)) h) ∙ path_found files links sections lines absolute parts key sought index clean is looked

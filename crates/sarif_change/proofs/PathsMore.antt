@@ -76,43 +76,8 @@ paths_clean roots uri = chosen_clean (readings_of uri) (after_roots roots (readi
 
 -- ---- paths, one by one
 
-pub no_path : (sections : List Section) (lines : Option Span) (sought : List Path) → [] ≡ map keyed sought → false ≡ list_any (is_found sections lines) sought
-no_path sections lines [] h = refl
-no_path sections lines (p ∷ ps) h = absurd (omega (arith, ap (λ (xs : List (Bool × List ℕ)). length xs) h))
-
-first_is : (x y : Bool × List ℕ) (xs ys : List (Bool × List ℕ)) → x ∷ xs ≡ y ∷ ys → x ≡ y
+pub first_is : (x y : Bool × List ℕ) (xs ys : List (Bool × List ℕ)) → x ∷ xs ≡ y ∷ ys → x ≡ y
 first_is x y xs ys h = ap (λ (zs : List (Bool × List ℕ)). get_or zs 0 x) h
 
-rest_is : (x y : Bool × List ℕ) (xs ys : List (Bool × List ℕ)) → x ∷ xs ≡ y ∷ ys → xs ≡ ys
+pub rest_is : (x y : Bool × List ℕ) (xs ys : List (Bool × List ℕ)) → x ∷ xs ≡ y ∷ ys → xs ≡ ys
 rest_is x y xs ys h = ap (λ (zs : List (Bool × List ℕ)). drop 1 zs) h
-
-path_is : (sections : List Section) (lines : Option Span) (first : SoughtPath) (p : Path) (found : Bool)
-    → list_all has_no_slash p.1 ≡ true → seen first ≡ keyed p
-    → ((parts : List (List ℕ)) → list_all has_no_slash parts ≡ true → first.key.items ≡ joined parts → found ≡ is_found sections lines (first.absolute, parts))
-    → found ≡ is_found sections lines p
-path_is sections lines first p found clean same finds =
-    finds p.1 clean (ap (λ (x : Bool × List ℕ). x.1) same) ∙ ap (λ (a : Bool). is_found sections lines (a, p.1)) (ap (λ (x : Bool × List ℕ). x.0) same)
-
-pub path_first : (sections : List Section) (lines : Option Span) (first : SoughtPath) (rest : List SoughtPath) (found : Bool) → found ≡ true
-    → ((parts : List (List ℕ)) → list_all has_no_slash parts ≡ true → first.key.items ≡ joined parts → found ≡ is_found sections lines (first.absolute, parts))
-    → (sought : List Path) → list_all (λ (path : Path). list_all has_no_slash path.1) sought ≡ true → seen first ∷ map seen rest ≡ map keyed sought
-    → true ≡ list_any (is_found sections lines) sought
-path_first sections lines first rest found is finds [] clean same = absurd (omega (arith, ap (λ (xs : List (Bool × List ℕ)). length xs) same))
-path_first sections lines first rest found is finds (p ∷ ps) clean same =
-    let here : found ≡ is_found sections lines p =
-    path_is sections lines first p found (and_parts _ _ clean).0
-    (first_is (seen first) (keyed p) (map seen rest) (map keyed ps) same) finds in
-    ap (λ b. b || list_any (is_found sections lines) ps) (sym is ∙ here)
-
-pub path_after : (sections : List Section) (lines : Option Span) (first : SoughtPath) (rest : List SoughtPath) (found more : Bool) → found ≡ false
-    → ((parts : List (List ℕ)) → list_all has_no_slash parts ≡ true → first.key.items ≡ joined parts → found ≡ is_found sections lines (first.absolute, parts))
-    → ((sought : List Path) → list_all (λ (path : Path). list_all has_no_slash path.1) sought ≡ true → map seen rest ≡ map keyed sought
-    → more ≡ list_any (is_found sections lines) sought)
-    → (sought : List Path) → list_all (λ (path : Path). list_all has_no_slash path.1) sought ≡ true → seen first ∷ map seen rest ≡ map keyed sought
-    → more ≡ list_any (is_found sections lines) sought
-path_after sections lines first rest found more is finds others [] clean same = absurd (omega (arith, ap (λ (xs : List (Bool × List ℕ)). length xs) same))
-path_after sections lines first rest found more is finds others (p ∷ ps) clean same =
-    let both = and_parts _ _ clean in
-    let here : found ≡ is_found sections lines p =
-    path_is sections lines first p found both.0 (first_is (seen first) (keyed p) (map seen rest) (map keyed ps) same) finds in
-    others ps both.1 (rest_is (seen first) (keyed p) (map seen rest) (map keyed ps) same) ∙ ap (λ b. b || list_any (is_found sections lines) ps) (sym is ∙ here)

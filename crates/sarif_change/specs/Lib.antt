@@ -1,5 +1,6 @@
 pub mod Internal
 pub mod Joined
+pub mod Known
 pub mod Meeting
 pub mod Outside
 pub mod Parts

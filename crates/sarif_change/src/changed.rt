@@ -1,20 +1,24 @@
 //! Whether the places of a result meet a change.
-ghost use Rattle.std.specs.Prelude.{◌≡◌, ◌++◌, ◌∷◌, [], ℕ, List, true, false, Option, IfOk, map};
+ghost use Rattle.std.specs.Prelude.{◌≡◌, ◌||◌, ℕ, List, true, false, Option, IfOk, OnOk, map};
 ghost use Rattle.std.specs.List.{list_any, list_all, Contains};
+ghost use Rattle.sarif_diff.specs.declared.section.Span.{Span as OneSpan};
 ghost use Rattle.sarif_change.specs.Joined.{sections_joined};
 ghost use Rattle.sarif_change.specs.Meeting as meeting;
 ghost use Rattle.sarif_change.specs.Outside as said;
 ghost use Rattle.sarif_change.specs.Parts.{pieces_of};
 ghost use Rattle.sarif_change.specs.Uri.{Path};
-ghost use Rattle.sarif_change.specs.Internal.Files.{found_at};
-ghost use Rattle.sarif_change.specs.Internal.Index.{tree_files, sought_parts, is_found};
+ghost use Rattle.sarif_change.specs.Internal.Files.{any_changed, found_at};
+ghost use Rattle.sarif_change.specs.Internal.Index.{tree_files, sought_parts, is_found, is_linked};
 ghost use Rattle.sarif_change.specs.Internal.Keys.{joined, has_no_slash};
 ghost use Rattle.sarif_change.specs.Internal.Sought.{seen, keyed};
 ghost use Rattle.sarif_change.specs.declared.spots.Spot.{Spot as OneSpot};
 
+use crate::found::is_any_changed;
 use crate::index::{file_tree, link_tree};
 use crate::joining::join_sections;
-use crate::parts::{first_part, first_piece};
+use crate::lines::ChangedLines;
+use crate::once::parts_once;
+use crate::parts::first_part;
 use crate::spots::{Scope, Spot, Spots};
 use crate::tree::Tree;
 use crate::uri::{SoughtPath, paths_of};
@@ -48,13 +52,23 @@ impl Model for Changed {
     ghost invariant = { λ c. IsIndex c.files c.links c.sections };
 }
 
-/// Returns whether a tree has a file with this key that changes one of these lines.
-fn is_in(tree: &Option<Tree>, key: &[u8], lines: Option<Span>) -> bool
-    ensures { result ≡ list_any (found_at key.now lines) (tree_files tree.now) }
+/// Adds the changed lines of the files in a tree that may be the one with this key.
+#[tactic(auto, using(crate::proofs::AnyChanged::none_added))]
+fn find_in<'t>(
+    tree: &'t Option<Tree>,
+    found: &mut Vec<&'t ChangedLines>,
+    key: &[u8],
+) -> Result<(), AllocError>
+    ensures { OnOk result ((lines : Option OneSpan) → any_changed lines found.new.items
+        ≡ (any_changed lines found.old.items
+        || list_any (found_at key.now lines) (tree_files tree.now))) }
 {
     match tree {
-        Some(tree) => tree.has(key, lines),
-        None => false,
+        Some(tree) => {
+            tree.find(found, key)?;
+            Ok(())
+        }
+        None => Ok(()),
     }
 }
 
@@ -70,44 +84,59 @@ fn sought_key(path: &SoughtPath) -> &[u8]
     path.key.as_slice()
 }
 
-/// Returns whether a symbolic link has this name, and changes one of these lines.
-fn is_link(
+/// Adds the changed lines of the symbolic links of this name.
+fn find_link<'t>(
     alloc: Global,
-    links: &Option<Tree>,
+    links: &'t Option<Tree>,
+    found: &mut Vec<&'t ChangedLines>,
     part: &[u8],
-    lines: Option<Span>,
-) -> Result<bool, AllocError>
-    ensures { IfOk result (λ found. found
-        ≡ list_any (found_at (part.now ++ 47 ∷ []) lines) (tree_files links.now)) }
+) -> Result<(), AllocError>
+    ensures { OnOk result ((lines : Option OneSpan) → any_changed lines found.new.items
+        ≡ (any_changed lines found.old.items || is_linked links.now lines part.now)) }
 {
     let mut key = Vec::from_slice(alloc, part)?;
     key.push(b'/')?;
-    Ok(is_in(links, key.as_slice(), lines))
+    find_in(links, found, key.as_slice())?;
+    Ok(())
 }
 
-/// Returns whether a symbolic link has the name of a part of this key, and changes one of these lines.
-#[tactic(auto, using(crate::proofs::LinksMore::none_linked, crate::proofs::LinksMore::found_here, crate::proofs::LinksMore::goes, crate::proofs::LinksMore::at_end))]
-fn has_link(
+/// Adds the changed lines of the symbolic links that have the name of one of these parts.
+#[tactic(auto, using(crate::proofs::AnyChanged::part_after))]
+fn find_each_link<'t>(
     alloc: Global,
-    links: &Option<Tree>,
+    links: &'t Option<Tree>,
+    found: &mut Vec<&'t ChangedLines>,
+    parts: &[&[u8]],
+) -> Result<(), AllocError>
+    ensures { OnOk result ((lines : Option OneSpan) → any_changed lines found.new.items
+        ≡ (any_changed lines found.old.items
+        || list_any (is_linked links.now lines) (map (λ part. part.now) parts.now))) }
+{
+    for part in parts {
+        find_link(alloc, links, found, *part)?;
+    }
+    Ok(())
+}
+
+/// Adds the changed lines of the symbolic links that have the name of a part of this key. A name that the key has often
+/// is looked up once.
+#[tactic(auto, using(crate::proofs::AnyChanged::none_linked))]
+fn find_links<'t>(
+    alloc: Global,
+    links: &'t Option<Tree>,
+    found: &mut Vec<&'t ChangedLines>,
     key: &[u8],
-    lines: Option<Span>,
-) -> Result<bool, AllocError>
-    ensures { IfOk result (λ found. found ≡ list_any
-        (λ part. list_any (found_at (part ++ 47 ∷ []) lines) (tree_files links.now)) (pieces_of key.now)) }
+) -> Result<(), AllocError>
+    ensures { OnOk result ((lines : Option OneSpan) → any_changed lines found.new.items
+        ≡ (any_changed lines found.old.items
+        || list_any (is_linked links.now lines) (pieces_of key.now))) }
 {
     if links.is_none() {
-        return Ok(false);
+        return Ok(());
     }
-    let mut rest = key;
-    while !rest.is_empty() {
-        let (part, after) = first_piece(rest);
-        if is_link(alloc, links, part, lines)? {
-            return Ok(true);
-        }
-        rest = after;
-    }
-    Ok(false)
+    let parts = parts_once(alloc, key)?;
+    find_each_link(alloc, links, found, &parts)?;
+    Ok(())
 }
 
 /// Returns the lines of a region, if its numbers are those of lines.
@@ -125,7 +154,7 @@ fn lines_of(region: Region) -> Option<Span>
 }
 
 /// Returns the lines that count: none in the scope of files.
-fn lines_in(scope: Scope, region: Option<Region>) -> Option<Span>
+pub(crate) fn lines_in(scope: Scope, region: Option<Region>) -> Option<Span>
     ensures { result ≡ said.lines_in scope region }
 {
     match (scope, region) {
@@ -156,66 +185,78 @@ impl Changed {
         })
     }
 
-    /// Returns whether a path may be a file that changes one of these lines.
-    #[tactic(auto, using(crate::proofs::LinksMore::path_by_end, crate::proofs::LinksMore::path_by_link))]
-    fn finds(
-        &self,
+    /// Adds the changed lines of the files that a path may be.
+    fn find_path<'c>(
+        &'c self,
         alloc: Global,
+        found: &mut Vec<&'c ChangedLines>,
         path: &SoughtPath,
-        lines: Option<Span>,
-    ) -> Result<bool, AllocError>
-        ensures { IfOk result (λ found. (parts : List (List ℕ)) → list_all has_no_slash parts ≡ true
-            → path.now.key.items ≡ joined parts
-            → found ≡ is_found self.now lines (path.now.absolute, parts)) }
+    ) -> Result<(), AllocError>
+        ensures { OnOk result ((lines : Option OneSpan) (parts : List (List ℕ))
+            → list_all has_no_slash parts ≡ true → path.now.key.items ≡ joined parts
+            → any_changed lines found.new.items ≡ (any_changed lines found.old.items
+            || is_found self.now lines (path.now.absolute, parts))) }
     {
-        if is_in(&self.files, sought_key(path), lines) {
-            return Ok(true);
-        }
-        let linked = has_link(alloc, &self.links, path.key.as_slice(), lines)?;
-        Ok(linked)
+        find_in(&self.files, found, sought_key(path))?;
+        find_links(alloc, &self.links, found, path.key.as_slice())?;
+        Ok(())
     }
 
-    /// Returns whether one of these paths may be a file that changes one of these lines.
-    #[tactic(auto, using(crate::proofs::PathsMore::no_path, crate::proofs::PathsMore::path_first, crate::proofs::PathsMore::path_after))]
-    fn finds_any(
-        &self,
+    /// Adds the changed lines of the files that one of these paths may be.
+    #[tactic(auto, using(crate::proofs::AnyChanged::no_paths))]
+    fn find_paths<'c>(
+        &'c self,
         alloc: Global,
+        found: &mut Vec<&'c ChangedLines>,
         paths: &[SoughtPath],
-        lines: Option<Span>,
-    ) -> Result<bool, AllocError>
-        ensures { IfOk result (λ found. (sought : List Path)
+    ) -> Result<(), AllocError>
+        ensures { OnOk result ((lines : Option OneSpan) (sought : List Path)
             → list_all (λ path. list_all has_no_slash path.1) sought ≡ true
             → map seen paths.now ≡ map keyed sought
-            → found ≡ list_any (is_found self.now lines) sought) }
+            → any_changed lines found.new.items ≡ (any_changed lines found.old.items
+            || list_any (is_found self.now lines) sought)) }
     {
         match paths {
-            [] => Ok(false),
+            [] => Ok(()),
             [first, rest @ ..] => {
-                if self.finds(alloc, first, lines)? {
-                    return Ok(true);
-                }
-                let more = self.finds_any(alloc, rest, lines)?;
-                Ok(more)
+                self.find_path(alloc, found, first)?;
+                self.find_paths(alloc, found, rest)?;
+                Ok(())
             }
         }
     }
 }
 
 impl Changed {
-    /// Returns whether a place with this URI and these lines meets the change.
+    /// Returns the changed lines of the files that this URI may be. Returns `AllocError` if memory runs out.
     #[tactic(auto, using(crate::proofs::FoundMore::all_found, crate::proofs::PathsMore::paths_clean))]
-    fn meets(
+    pub(crate) fn look_up<'c>(
+        &'c self,
+        alloc: Global,
+        roots: &[Text],
+        uri: &str,
+    ) -> Result<Vec<&'c ChangedLines>, AllocError>
+        ensures { IfOk result (λ found. (lines : Option OneSpan)
+            → any_changed lines found.items ≡ meeting.meets self.now roots.now uri.now lines) }
+    {
+        let paths = paths_of(alloc, roots, uri.as_bytes())?;
+        let mut found = Vec::new(alloc);
+        self.find_paths(alloc, &mut found, paths.as_slice())?;
+        Ok(found)
+    }
+
+    /// Returns whether a place with this URI and these lines meets the change. Returns `AllocError` if memory runs out.
+    pub(crate) fn meets(
         &self,
         alloc: Global,
         roots: &[Text],
-        uri: &Text,
+        uri: &str,
         lines: Option<Span>,
     ) -> Result<bool, AllocError>
         ensures { IfOk result (λ met. met ≡ meeting.meets self.now roots.now uri.now lines) }
     {
-        let paths = paths_of(alloc, roots, uri.as_str().as_bytes())?;
-        let met = self.finds_any(alloc, paths.as_slice(), lines)?;
-        Ok(met)
+        let found = self.look_up(alloc, roots, uri)?;
+        Ok(is_any_changed(&found, lines))
     }
 
     /// Returns whether a place meets the change, if it has a path.
@@ -231,7 +272,7 @@ impl Changed {
         match &spot.uri {
             None => Ok(None),
             Some(uri) => {
-                let met = self.meets(alloc, roots, uri, lines_in(scope, spot.region))?;
+                let met = self.meets(alloc, roots, uri.as_str(), lines_in(scope, spot.region))?;
                 Ok(Some(met))
             }
         }

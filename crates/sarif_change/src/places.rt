@@ -11,7 +11,7 @@ use serde_json::Value;
 use std::alloc::{AllocError, Global};
 
 /// An integer from 0 on that fits 64 bits.
-fn whole_number(value: &Value) -> Option<u64>
+pub(crate) fn whole_number(value: &Value) -> Option<u64>
     ensures { result ≡ said.whole_number (view value.now) }
 {
     value.as_u64()
@@ -44,7 +44,7 @@ fn lines_to(first: u32, end: &Value) -> Option<Region>
 }
 
 /// The lines of a region, if it has lines.
-fn region_of(region: Option<&Value>) -> Option<Region>
+pub(crate) fn region_of(region: Option<&Value>) -> Option<Region>
     ensures { result ≡ said.region_of (option_map (λ v. view v.now) region.entry) }
 {
     let first = line_of(member_within(region, "startLine")?)?;
@@ -103,7 +103,7 @@ fn spot_of(alloc: Global, artifacts: &[Place], location: Option<&Value>) -> Resu
 
 /// The elements of the array of that name.
 #[tactic(auto, using(sarif_model::proofs::Elements::elements_items_view))]
-fn elements_in<'a>(value: &'a Value, name: &str) -> &'a [Value]
+pub(crate) fn elements_in<'a>(value: &'a Value, name: &str) -> &'a [Value]
     ensures { map view result.now ≡ said.elements_in name.now (view value.now) }
 {
     match member_at(value, name) {
@@ -116,7 +116,7 @@ fn elements_in<'a>(value: &'a Value, name: &str) -> &'a [Value]
 }
 
 /// The location of a step.
-fn location_of(step: &Value) -> Option<&Value>
+pub(crate) fn location_of(step: &Value) -> Option<&Value>
     ensures { option_map (λ v. view v.now) result ≡ said.location_of (view step.now) }
 {
     let location = member_at(step, "location")?;
@@ -167,7 +167,7 @@ fn elements_of<'a>(
 }
 
 /// The steps of the code flows of a result.
-fn steps_of(alloc: Global, found: &Value) -> Result<Vec<&Value>, AllocError>
+pub(crate) fn steps_of(alloc: Global, found: &Value) -> Result<Vec<&Value>, AllocError>
     ensures { IfOk result
         (λ steps. map (λ v. view v.now) steps.items ≡ said.steps_of (view found.now)) }
 {
@@ -214,7 +214,7 @@ fn push_steps(
 }
 
 /// Whether one of these steps is kept elsewhere in the run.
-fn is_any_elsewhere(steps: &[&Value]) -> bool
+pub(crate) fn is_any_elsewhere(steps: &[&Value]) -> bool
     ensures { result ≡ list_any said.is_elsewhere (map (λ v. view v.now) steps.now) }
 {
     for step in steps {

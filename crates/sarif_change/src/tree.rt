@@ -1,14 +1,14 @@
 //! The files of a change by their keys: a tree in which a key is found without asking each file.
-ghost use Rattle.std.specs.Prelude.{◌≡◌, ◌≤◌, ◌++◌, [], true, length, Option, IfOk, IfSome, IfNone};
+ghost use Rattle.std.specs.Prelude.{◌≡◌, ◌≤◌, ◌++◌, [], true, length, Option, IfOk, IfSome, IfNone, OnOk, ◌||◌};
 ghost use Rattle.std.specs.List.{list_any, list_all};
 ghost use Rattle.sarif_diff.specs.declared.section.Span.{Span as OneSpan};
 ghost use Rattle.sarif_change.specs.Internal.Keys as keys;
-ghost use Rattle.sarif_change.specs.Internal.Files.{changed_at, found_at};
+ghost use Rattle.sarif_change.specs.Internal.Files.{any_changed, changed_at, found_at};
 
 use crate::file::{ChangedFile, SharedPart};
+use crate::found::push_if;
 use crate::keys::{alike, beginning_of, opens};
 use crate::lines::ChangedLines;
-use sarif_diff::Span;
 use std::alloc::{AllocError, Global};
 use std::marker::Model;
 
@@ -112,21 +112,32 @@ impl Tree {
         }
     }
 
-    /// Returns whether a file may be the one with this key, and changes one of these lines.
-    #[tactic(auto, using(crate::proofs::TreeMore::any_in_both))]
-    pub(crate) fn has(&self, key: &[u8], lines: Option<Span>) -> bool
-        ensures { result ≡ list_any (found_at key.now lines) self.now }
+    /// Adds the changed lines of the files that may be the one with this key. Returns `AllocError` if memory runs out.
+    #[tactic(auto, using(crate::proofs::AnyChanged::same_file, crate::proofs::AnyChanged::both_sides))]
+    pub(crate) fn find<'t>(
+        &'t self,
+        found: &mut Vec<&'t ChangedLines>,
+        key: &[u8],
+    ) -> Result<(), AllocError>
+        ensures { OnOk result ((lines : Option OneSpan) → any_changed lines found.new.items
+            ≡ (any_changed lines found.old.items || list_any (found_at key.now lines) self.now)) }
     {
         match &self.node {
-            Node::One(file) => alike(&file.key, key) && file.changed.is_changed_at(lines),
+            Node::One(file) => {
+                push_if(found, alike(&file.key, key), &file.changed)?;
+                Ok(())
+            }
             Node::Two(left, shared, right) => {
                 if opens(&shared.beginning, key) {
-                    shared.changed.is_changed_at(lines)
-                } else if !alike(&shared.beginning, key) {
-                    false
-                } else {
-                    left.has(key, lines) || right.has(key, lines)
+                    push_if(found, true, &shared.changed)?;
+                    return Ok(());
                 }
+                if !alike(&shared.beginning, key) {
+                    return Ok(());
+                }
+                left.find(found, key)?;
+                right.find(found, key)?;
+                Ok(())
             }
         }
     }

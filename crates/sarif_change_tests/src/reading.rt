@@ -1,7 +1,7 @@
 //! Which members of a result are its places.
 use crate::told::changed_by;
-use sarif_change::{Changed, Scope, places_of};
-use sarif_model::{Place, Text};
+use sarif_change::{Changed, KnownArtifacts, Scope, places_of};
+use sarif_model::{Place, Sequence, Text};
 use serde_json::Value;
 use std::alloc::{AllocError, Global};
 use std::test::Fail;
@@ -166,26 +166,34 @@ fn artifact(alloc: Global, uri: &str) -> Result<Place, AllocError> {
     })
 }
 
-fn artifacts(alloc: Global) -> Result<Vec<Place>, AllocError> {
-    let nothing = Place {
+fn artifacts(alloc: Global) -> Result<Sequence<Place>, AllocError> {
+    let mut all = Sequence::new(alloc);
+    all.push(artifact(alloc, "b.c")?)?;
+    all.push(artifact(alloc, "a.c")?)?;
+    all.push(Place {
         uri: None,
         base: None,
-    };
-    Ok(vec![in alloc; artifact(alloc, "b.c")?, artifact(alloc, "a.c")?, nothing]?)
+    })?;
+    Ok(all)
 }
 
-/// Returns whether a result of this JSON is outside of a change, or nothing if this is not JSON.
+/// Returns whether a result of this JSON is outside of a change. Returns `None` if this is not JSON, or if it matters
+/// whether the artifacts are looked up before.
 fn is_outside(
     alloc: Global,
     changed: &Changed,
-    artifacts: &[Place],
+    known: &KnownArtifacts<'_>,
     json: &str,
 ) -> Result<Option<bool>, AllocError> {
     let Ok(found) = Value::from_str(alloc, json) else {
         return Ok(None);
     };
-    let places = places_of(alloc, &found, artifacts)?;
-    Ok(Some(changed.is_outside(alloc, &[], Scope::Lines, &places)?))
+    let places = places_of(alloc, &found, known.artifacts.as_slice())?;
+    let outside = changed.is_outside(alloc, &[], Scope::Lines, &places)?;
+    if known.is_outside(alloc, &found)? != outside {
+        return Ok(None);
+    }
+    Ok(Some(outside))
 }
 
 /// Returns the rows that are not as expected, one in a line, each with its text between these.
@@ -196,12 +204,13 @@ fn other_rows(
     before: &str,
     after: &str,
 ) -> Result<String, AllocError> {
-    let artifacts = artifacts(alloc)?;
+    let roots: Vec<Text> = Vec::new(alloc);
+    let known = changed.know_artifacts(alloc, &roots, Scope::Lines, artifacts(alloc)?)?;
     let mut told = String::new(alloc);
     for (row, outside) in rows {
         let members = row.replace(alloc, "@", B)?;
         let json = format!(in alloc; "{before}{members}{after}")?;
-        if is_outside(alloc, changed, &artifacts, json.as_str())? != Some(*outside) {
+        if is_outside(alloc, changed, &known, json.as_str())? != Some(*outside) {
             told.push_str(json.as_str())?;
             told.push_str("\n")?;
         }

@@ -64,7 +64,9 @@ fn gate_object(
     })
 }
 
-fn counts_value(alloc: Global, counts: &Counts) -> Result<Value, AllocError>
+/// Returns the member `counts` of `properties.gate` of a merged log, made from these counts. Returns `AllocError` if
+/// memory for it runs out.
+pub fn counts_value(alloc: Global, counts: &Counts) -> Result<Value, AllocError>
     ensures { IfOk result (λ v. view v ≡ counts_data (count_at counts.now)) }
 {
     let absent = tally_value(alloc, counts.of(State::Absent))?;

@@ -1,4 +1,4 @@
-//! The verdict of the gate.
+//! The verdict of the gate, and what a result does to it.
 ghost use Rattle.std.specs.Prelude.{◌≡◌};
 ghost use Rattle.sarif_counts.specs.Hits.{verdict_name};
 
@@ -21,4 +21,15 @@ impl Verdict {
             Verdict::Fail => "fail",
         }
     }
+}
+
+/// What a result does to the gate.
+#[derive(Clone, Copy, Debug, PartialEq, Eq)]
+pub enum Impact {
+    /// A hit of a condition that fails.
+    Stops,
+    /// A hit of conditions that pass.
+    Hit,
+    /// No hit.
+    None,
 }

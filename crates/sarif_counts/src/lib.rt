@@ -13,8 +13,8 @@ mod tally;
 
 pub use counts::Counts;
 pub use decision::{hits, verdict};
-pub use gate::gate_value;
-pub use gate_verdict::Verdict;
+pub use gate::{counts_value, gate_value};
+pub use gate_verdict::{Impact, Verdict};
 pub use life::{KnownLog, Life, NewFile};
 pub use suppressing::is_suppressing;
 pub use table::summary;

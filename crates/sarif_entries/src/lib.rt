@@ -29,6 +29,7 @@ pub use laws::{
 };
 pub use limit::Limit;
 pub use object::{is_object_of, object_of};
+pub use read_condition::conditions_of;
 pub use read_entry::is_day;
 pub use read_file::entries_of_file;
 pub use snippets::is_fifth;

@@ -158,9 +158,10 @@ fn conditions_from(
     Ok(conditions)
 }
 
-/// Returns the conditions that an entry names, in the order of `ConditionKind::ALL`.
+/// Returns the conditions that an entry names, in the order of `ConditionKind::ALL`; `wrong` if a member that has one is
+/// of another type. Returns `OutOfMemory` if memory for them runs out.
 #[tactic(auto, unfolding(crate::specs::Entries::conditions_of))]
-pub(crate) fn conditions_of(
+pub fn conditions_of(
     alloc: Global,
     entry: &Value,
     wrong: FileFault,

@@ -101,6 +101,13 @@ fn advice_on_fault(fault: Fault, at: At, hint: Hint) -> &'static str {
         }
         Fault::BadHeader => "pass the diff as git diff writes it, with the names of its files",
         Fault::Submodule => "pass --submodule=diff to git diff, or --ignore-submodules",
+        Fault::NotPolicy
+        | Fault::NoCondition
+        | Fault::BadCondition
+        | Fault::BadFilter
+        | Fault::EmptyFilter
+        | Fault::SameName
+        | Fault::NeedsDiff => "fix the condition, or validate the file against its JSON Schema",
     }
 }
 

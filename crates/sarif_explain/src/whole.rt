@@ -36,6 +36,13 @@ fn wanted_at(at: At, fault: Fault) -> Wanted {
         Fault::BadHunk => Wanted::HunkLine,
         Fault::BadHeader => Wanted::FileName,
         Fault::Submodule => Wanted::SubmoduleFiles,
+        Fault::NotPolicy
+        | Fault::NoCondition
+        | Fault::BadCondition
+        | Fault::BadFilter
+        | Fault::EmptyFilter
+        | Fault::SameName
+        | Fault::NeedsDiff => Wanted::Condition,
         Fault::TooMany => match at {
             At::Line(_) => Wanted::FewSections,
             At::Whole(Source::Suppress) => Wanted::FewEntries,
@@ -138,7 +145,14 @@ pub(crate) fn mismatch_of<'a>(
 ) -> Result<Mismatch<'a>, AllocError> {
     let root = JsonPlace::root(alloc, value, !is_file(at));
     match at {
-        At::Nowhere | At::Whole(_) | At::Line(_) | At::Place(_) | At::Rule(_) => {
+        At::Nowhere
+        | At::Whole(_)
+        | At::Condition(_)
+        | At::Only(_, _)
+        | At::Except(_, _)
+        | At::Line(_)
+        | At::Place(_)
+        | At::Rule(_) => {
             let found = mismatch_of_source(alloc, &root, at, fault)?;
             Ok(or_all(found, root, wanted_at(at, fault)))
         }

@@ -91,7 +91,7 @@ rule_same result r (Some component) is =
     ap (λ i. rule_by i (own_id_at r) (elements_in (codes "rules") component)) (index_same result r is)
     ∙ ap (λ id. rule_by (rule_index result) id (elements_in (codes "rules") component)) (own_id_same result r is)
 
-descriptor_same : (run result : Data) (r : RuleReference) → IsRuleReference r result → descriptor_at run r ≡ descriptor_of run result
+pub descriptor_same : (run result : Data) (r : RuleReference) → IsRuleReference r result → descriptor_at run r ≡ descriptor_of run result
 descriptor_same run result r is =
     rule_same result r (component_at run r) is ∙ ap (option_and_then (Lookup.rule_in result)) (component_same run result r is)
 

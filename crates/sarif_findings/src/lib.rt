@@ -34,6 +34,7 @@ mod whole;
 pub use code::Code;
 pub use finding::Finding;
 pub use laws::codes_have_few_short_lines;
+pub use lookup::{driver_of, elements_in};
 pub use named_run::NamedRun;
 pub use reported_results::finding_of;
 pub use reporting::{Reporting, Show};

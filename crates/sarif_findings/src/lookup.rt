@@ -25,9 +25,9 @@ pub(crate) fn number_in(value: &Value, name: &str) -> Option<u64>
     value.get(name)?.as_u64()
 }
 
-/// The elements of the array `name` of an object.
+/// Returns the elements of the array `name` of an object. Anything else has none.
 #[tactic(auto, using(sarif_model::proofs::Elements::elements_items_view))]
-pub(crate) fn elements_in<'a>(value: &'a Value, name: &str) -> &'a [Value]
+pub fn elements_in<'a>(value: &'a Value, name: &str) -> &'a [Value]
     ensures { map view result.now ≡ said.elements_in name.now (view value.now) }
 {
     match value.get(name).and_then(Value::as_array) {
@@ -44,8 +44,8 @@ fn element_at<'a>(value: &'a Value, name: &str, index: u64) -> Option<&'a Value>
     elements_in(value, name).get(index as usize)
 }
 
-/// The driver of a run's tool.
-pub(crate) fn driver_of(run: &Value) -> Option<&Value>
+/// Returns the driver of a run's tool (SARIF 2.1.0, "driver property").
+pub fn driver_of(run: &Value) -> Option<&Value>
     ensures { option_map (λ v. view v.now) result ≡ said.driver_of (view run.now) }
 {
     run.get("tool")?.get("driver")

@@ -70,6 +70,7 @@ impl EndedRun<'_, '_> {
             Source::Log(number) => self.request.logs.get(number as usize),
             Source::Baseline(number) => self.request.baselines.get(number as usize),
             Source::Suppress => self.request.suppress.as_ref(),
+            Source::Policy => None,
             Source::Diff => self.request.diff.as_ref(),
             Source::Output => Some(&self.request.out),
             Source::Known => self.name_for(Report::Known),
@@ -125,6 +126,7 @@ impl EndedRun<'_, '_> {
                 of_kept(alloc, fault, name, readers.baselines.get(number as usize))
             }
             Source::Suppress => of_kept(alloc, fault, name, readers.suppressions.as_ref()),
+            Source::Policy => of_source(alloc, fault, "", &[], None),
             Source::Diff => of_diff(alloc, fault, name, readers.diff.as_ref()),
             Source::Output => of_written(alloc, fault, name, Some(&self.writers.out)),
             Source::Known => of_output(alloc, fault, name),
@@ -155,6 +157,7 @@ fn source_of(fault: &MergeFault) -> Option<Source> {
         At::Nowhere | At::Place(_) | At::Rule(_) => None,
         At::Whole(source) | At::Run(source, _) | At::Single(source, _, _) => Some(source),
         At::Entry(_) => Some(Source::Suppress),
+        At::Condition(_) | At::Only(_, _) | At::Except(_, _) => Some(Source::Policy),
         At::Line(_) => Some(Source::Diff),
     }
 }

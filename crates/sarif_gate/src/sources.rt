@@ -1,5 +1,5 @@
 //! The sources that a request names.
-ghost use Rattle.std.specs.Prelude.{◌≡◌, IfOk, map, option_map};
+ghost use Rattle.std.specs.Prelude.{◌≡◌, None, IfOk, map, option_map};
 ghost use Rattle.sarif_streams.specs.Counted.{failed_calls};
 ghost use Rattle.sarif_streams.specs.Failing.{failed_calls_in};
 ghost use Rattle.sarif_streams.specs.Named.{Named, channel_named, input_channel};
@@ -28,11 +28,13 @@ pub fn sources_of<'a>(
         ≡ map Named «request».now.baselines.items) }
     ensures suppressions { IfOk result (λ sources. option_map source_channel sources.suppressions
         ≡ option_map Named «request».now.suppress) }
+    ensures policy { IfOk result (λ sources. sources.policy ≡ None) }
     ensures diff { IfOk result (λ sources. option_map source_channel sources.diff
         ≡ option_map channel_named «request».now.diff) }
     ensures fresh { IfOk result (λ sources. (failed_calls_in sources.logs.items ≡ 0)
         × (failed_calls_in sources.baselines.items ≡ 0)
         × (failed_calls_if sources.suppressions ≡ 0)
+        × (failed_calls_if sources.policy ≡ 0)
         × (failed_calls_if sources.diff ≡ 0)) }
 {
     let logs = logs_of(rt, &request.logs, request.explain)?;
@@ -49,6 +51,7 @@ pub fn sources_of<'a>(
         logs,
         baselines,
         suppressions,
+        policy: None,
         diff,
     })
 }

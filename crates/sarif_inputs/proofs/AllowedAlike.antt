@@ -2,11 +2,12 @@
 -- allowed or not.
 use Rattle.std.proofs.Common.{◌≡◌, ℕ, ◌+◌, ◌++◌, true, false, List, [], ◌∷◌, length, refl, sym, ap, ap₂, ◌∙◌}
 use Rattle.std.specs.List.{AllByRecursion}
+use Rattle.std.specs.Prelude.{is_some}
 use Rattle.serde_json.specs.Data.{Data}
 use Rattle.sarif_options.specs.declared.checks.Checks.{Checks}
 use Rattle.sarif_model.specs.Run.{results_total}
 use Rattle.sarif_model.specs.declared.merge_fault.Source.{Source}
-use Rattle.sarif_model.specs.declared.merge_fault.Source.TheVariants.{Log, Baseline, Suppress, Diff, Output, Known}
+use Rattle.sarif_model.specs.declared.merge_fault.Source.TheVariants.{Log, Baseline, Suppress, Policy, Diff, Output, Known}
 use Rattle.sarif_runs.specs.Judging.{faults_of_runs, run_values}
 use Rattle.sarif_runs.specs.Placed.{Placed}
 use Rattle.sarif_inputs.specs.Internal.Allowing.{IsReadAlike, allowing, checks_allowing}
@@ -14,6 +15,7 @@ use Rattle.sarif_inputs.specs.ChangeIn.{change_read, faults_of_change}
 use Rattle.sarif_inputs.specs.Faults.{faults_of, file_faults, number_faults}
 use Rattle.sarif_entries.specs.Given.{file_or_none}
 use Rattle.sarif_inputs.specs.Inputs.{Inputs, all_sources, baseline_runs, input_runs, numbered, placed, placed_from, readable, reading_checks, run_options}
+use Rattle.sarif_inputs.specs.PolicyIn.{faults_of_policy, policy_read}
 use Rattle.sarif_inputs.specs.SourceFaults.{limit_faults, reading_faults, source_faults}
 use Rattle.sarif_inputs.proofs.SourceSteps.{faults_append}
 
@@ -28,6 +30,7 @@ module _ (checks : Checks) where
   options_alike (Log k) = refl
   options_alike (Baseline k) = refl
   options_alike Suppress = refl
+  options_alike Policy = refl
   options_alike Diff = refl
   options_alike Output = refl
   options_alike Known = refl
@@ -81,5 +84,6 @@ all_alike inputs logs baselines =
     ++ (number_faults Baseline inputs.baselines
     ++ (sources_alike inputs logs baselines i
     ++ (file_faults (file_or_none inputs.suppressions inputs.today)
+    ++ (faults_of_policy (policy_read (is_some inputs.diff) inputs.policy)
     ++ (faults_of_change (change_read inputs.checks inputs.diff)
-    ++ faults_of_runs (current_alike inputs logs i ++ baseline_alike inputs baselines i)))))
+    ++ faults_of_runs (current_alike inputs logs i ++ baseline_alike inputs baselines i))))))

@@ -3,6 +3,7 @@ pub mod ChangeAnswers
 pub mod FileAnswers
 pub mod IndexedTexts
 pub mod OpenedParts
+pub mod PolicyAnswers
 pub mod ReadAgain
 pub mod ReadFacts
 pub mod ReadIndexes

@@ -7,7 +7,7 @@ use Rattle.sarif_evidence.specs.declared.version.MatchingVersion.TheVariants.{Tw
 use Rattle.sarif_options.specs.declared.checks.Checks.{Checks}
 use Rattle.sarif_model.specs.Run.{results_total}
 use Rattle.sarif_model.specs.declared.merge_fault.Source.{Source}
-use Rattle.sarif_model.specs.declared.merge_fault.Source.TheVariants.{Log, Baseline, Suppress, Diff, Output, Known}
+use Rattle.sarif_model.specs.declared.merge_fault.Source.TheVariants.{Log, Baseline, Suppress, Policy, Diff, Output, Known}
 use Rattle.sarif_read.specs.Reading.{log_of}
 use Rattle.sarif_runs.specs.Judging.{run_values}
 use Rattle.sarif_runs.specs.Internal.Opened.{placed_of}
@@ -25,6 +25,7 @@ same_must : (once : Bool) (checks : Checks) (source : Source) → must_succeed c
 same_must once checks (Log k) = refl
 same_must once checks (Baseline k) = refl
 same_must once checks Suppress = refl
+same_must once checks Policy = refl
 same_must once checks Diff = refl
 same_must once checks Output = refl
 same_must once checks Known = refl

@@ -1,5 +1,5 @@
 -- The errors of the inputs of a merge, in the order of the checks, and the meaning of a rejection.
-use Rattle.std.specs.Prelude.{◌≡◌, ◌≤◌, ◌<◌, ℕ, nat_lt, List, [], ◌∷◌, ◌++◌, ◌⊎◌, length, Option, Result, Ok, Err, if◌then◌else◌}
+use Rattle.std.specs.Prelude.{◌≡◌, ◌≤◌, ◌<◌, ℕ, nat_lt, List, [], ◌∷◌, ◌++◌, ◌⊎◌, length, Option, Result, Ok, Err, is_some, if◌then◌else◌}
 use Rattle.sarif_entries.specs.File.{File}
 use Rattle.sarif_entries.specs.Given.{file_or_none}
 use Rattle.sarif_entries.specs.declared.fault.FileFault.{FileFault}
@@ -12,6 +12,7 @@ use Rattle.sarif_model.specs.MergeFault.{cause_of, fault_at}
 use Rattle.sarif_entries.specs.FileFault.{fault_of_file}
 use Rattle.sarif_inputs.specs.ChangeIn.{change_read, faults_of_change}
 use Rattle.sarif_inputs.specs.Inputs.{Inputs, all_sources, all_runs}
+use Rattle.sarif_inputs.specs.PolicyIn.{faults_of_policy, policy_read}
 use Rattle.sarif_inputs.specs.SourceFaults.{source_faults}
 use Rattle.sarif_runs.specs.Judging.{faults_of_runs}
 use Rattle.sarif_model.specs.FirstFault.{first}
@@ -36,15 +37,16 @@ file_faults (Ok entries) = []
 file_faults (Err fault) = fault_of_file fault ∷ []
 
 -- the errors in order: too many logs, too many baselines; the reading of each source and the limits of all so far;
--- the suppression file; the diff; each input run and its results, and then each baseline run and its results
+-- the suppression file; the policy; the diff; each input run and its results, and then each baseline run and its results
 abbrev pub faults_of : Inputs → List MergeFault
 faults_of inputs =
     number_faults Log inputs.logs
     ++ (number_faults Baseline inputs.baselines
     ++ (source_faults 0 0 (all_sources inputs)
     ++ (file_faults (file_or_none inputs.suppressions inputs.today)
+    ++ (faults_of_policy (policy_read (is_some inputs.diff) inputs.policy)
     ++ (faults_of_change (change_read inputs.checks inputs.diff)
-    ++ faults_of_runs (all_runs inputs)))))
+    ++ faults_of_runs (all_runs inputs))))))
 
 abbrev pub first_fault : Inputs → Option MergeFault
 first_fault inputs = first (faults_of inputs)

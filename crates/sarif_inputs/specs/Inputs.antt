@@ -11,20 +11,22 @@ use Rattle.sarif_evidence.specs.declared.version.MatchingVersion.TheVariants.{Tw
 use Rattle.sarif_read.specs.declared.read_fault.ReadFault.{ReadFault}
 use Rattle.sarif_read.specs.Reading.{log_of}
 use Rattle.sarif_model.specs.declared.merge_fault.Source.{Source}
-use Rattle.sarif_model.specs.declared.merge_fault.Source.TheVariants.{Log, Baseline, Suppress, Diff, Output, Known}
+use Rattle.sarif_model.specs.declared.merge_fault.Source.TheVariants.{Log, Baseline, Suppress, Policy, Diff, Output, Known}
 
--- the bytes of the logs, of the baselines, and of the suppression file and the diff, if there are any; today's date, if
--- it is known; what is required of runs; and whether records have regions and snippets because entries compare snippets
+-- the bytes of the logs, of the baselines, and of the suppression file, the policy and the diff, if there are any; today's
+-- date, if it is known; what is required of runs; and whether records have regions and snippets because filters of the
+-- policy or entries compare snippets
 pub record Inputs : Type 0 where
   pub logs : List (List ℕ)
   pub baselines : List (List ℕ)
   pub suppressions : Option (List ℕ)
+  pub policy : Option (List ℕ)
   pub diff : Option (List ℕ)
   pub today : Option ℕ
   pub checks : Checks
   pub snippets : Bool
 
--- how runs are read: entries that compare snippets need what a merge needs that doesn't count copies
+-- how runs are read: filters and entries that compare snippets need what a merge needs that doesn't count copies
 abbrev pub reading_checks : Inputs → Checks
 reading_checks inputs =
     record inputs.checks { once = inputs.snippets || inputs.checks.once }
@@ -56,6 +58,7 @@ abbrev pub must_succeed : Checks → Source → Bool
 must_succeed checks (Log k) = checks.require_success
 must_succeed checks (Baseline k) = false
 must_succeed checks Suppress = false
+must_succeed checks Policy = false
 must_succeed checks Diff = false
 must_succeed checks Output = false
 must_succeed checks Known = false

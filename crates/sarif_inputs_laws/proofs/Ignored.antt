@@ -135,6 +135,7 @@ ignored_missing inputs logs baselines none same older =
             (large_without checks Baseline (λ n. refl) 0 inputs.baselines baselines older))
             fine.sources;
         file = fine.file;
+        policy = fine.policy;
         change = fine.change;
         log_runs = ap faults_of_runs now ∙ read_now.faultless;
         older_runs = ap faults_of_runs before ∙ read_before.faultless;

@@ -1,6 +1,7 @@
 -- Parts of an accepted merge are accepted, and by tool they are matched as all of it.
 use Rattle.std.proofs.Common.{◌≡◌, ◌+◌, ◌≤◌, ℕ, List, [], ◌++◌, length, refl, sym, ap, ap₂, ◌∙◌, arith}
 use Rattle.std.proofs.lemmas.List.{length-append, map-append}
+use Rattle.std.specs.Prelude.{is_some}
 use Rattle.sarif_model.specs.declared.merge_fault.Source.{Source}
 use Rattle.sarif_model.specs.declared.merge_fault.Source.TheVariants.{Baseline, Log}
 use Rattle.sarif_evidence.specs.declared.version.MatchingVersion.{MatchingVersion}
@@ -16,6 +17,7 @@ use Rattle.sarif_runs.specs.Placed.{Placed}
 use Rattle.sarif_inputs.specs.ChangeIn.{change_read, faults_of_change}
 use Rattle.sarif_inputs.specs.Faults.{faults_of, file_faults, number_faults}
 use Rattle.sarif_inputs.specs.Inputs.{Inputs, Sourced, baseline_runs, input_runs, must_succeed, numbered, placed, reading_checks}
+use Rattle.sarif_inputs.specs.PolicyIn.{faults_of_policy, policy_read}
 use Rattle.sarif_inputs.specs.SourceFaults.{source_faults}
 use Rattle.sarif_inputs_laws.specs.Parts.{HasParts, IsMatchedAs, baseline_in, current_in, with_sources}
 use Rattle.sarif_inputs_laws.proofs.Renumbered.{both_empty, faults-append, none_both, placed-append, placed_alike, records-append, records_alike, runs_faultless, values_alike}
@@ -61,6 +63,7 @@ pub record IsFaultless (inputs : Inputs) : Type 0 where
   pub baselines : number_faults Baseline inputs.baselines ≡ []
   pub sources : source_faults 0 0 (numbered (reading_checks inputs) Log 0 inputs.logs ++ numbered (reading_checks inputs) Baseline 0 inputs.baselines) ≡ []
   pub file : file_faults (file_or_none inputs.suppressions inputs.today) ≡ []
+  pub policy : faults_of_policy (policy_read (is_some inputs.diff) inputs.policy) ≡ []
   pub change : faults_of_change (change_read inputs.checks inputs.diff) ≡ []
   pub log_runs : faults_of_runs (input_runs inputs) ≡ []
   pub older_runs : faults_of_runs (baseline_runs inputs) ≡ []
@@ -69,30 +72,43 @@ pub apart_faults : (inputs : Inputs) → faults_of inputs ≡ [] → IsFaultless
 apart_faults inputs none =
     let sources = numbered (reading_checks inputs) Log 0 inputs.logs ++ numbered (reading_checks inputs) Baseline 0 inputs.baselines in
     let file = file_faults (file_or_none inputs.suppressions inputs.today) in
+    let policy = faults_of_policy (policy_read (is_some inputs.diff) inputs.policy) in
     let change = faults_of_change (change_read inputs.checks inputs.diff) in
     let runs = faults_of_runs (input_runs inputs ++ baseline_runs inputs) in
-    let one = both_empty (number_faults Log inputs.logs) (number_faults Baseline inputs.baselines ++ (source_faults 0 0 sources ++ (file ++ (change ++ runs)))) none in
-    let two = both_empty (number_faults Baseline inputs.baselines) (source_faults 0 0 sources ++ (file ++ (change ++ runs))) one.1 in
-    let three = both_empty (source_faults 0 0 sources) (file ++ (change ++ runs)) two.1 in
-    let four = both_empty file (change ++ runs) three.1 in
-    let five = both_empty change runs four.1 in
-    let six = both_empty (faults_of_runs (input_runs inputs)) (faults_of_runs (baseline_runs inputs))
-    (sym (faults-append (input_runs inputs) (baseline_runs inputs)) ∙ five.1) in
-    record { logs = one.0; baselines = two.0; sources = three.0; file = four.0; change = five.0; log_runs = six.0; older_runs = six.1 }
+    let one = both_empty (number_faults Log inputs.logs) (number_faults Baseline inputs.baselines ++ (source_faults 0 0 sources ++ (file ++ (policy ++ (change ++ runs))))) none in
+    let two = both_empty (number_faults Baseline inputs.baselines) (source_faults 0 0 sources ++ (file ++ (policy ++ (change ++ runs)))) one.1 in
+    let three = both_empty (source_faults 0 0 sources) (file ++ (policy ++ (change ++ runs))) two.1 in
+    let four = both_empty file (policy ++ (change ++ runs)) three.1 in
+    let five = both_empty policy (change ++ runs) four.1 in
+    let six = both_empty change runs five.1 in
+    let seven = both_empty (faults_of_runs (input_runs inputs)) (faults_of_runs (baseline_runs inputs))
+    (sym (faults-append (input_runs inputs) (baseline_runs inputs)) ∙ six.1) in
+    record {
+      logs = one.0;
+      baselines = two.0;
+      sources = three.0;
+      file = four.0;
+      policy = five.0;
+      change = six.0;
+      log_runs = seven.0;
+      older_runs = seven.1;
+    }
 
 pub all_faults : (inputs : Inputs) → IsFaultless inputs → faults_of inputs ≡ []
 all_faults inputs none =
     let sources = numbered (reading_checks inputs) Log 0 inputs.logs ++ numbered (reading_checks inputs) Baseline 0 inputs.baselines in
     let file = file_faults (file_or_none inputs.suppressions inputs.today) in
+    let policy = faults_of_policy (policy_read (is_some inputs.diff) inputs.policy) in
     let change = faults_of_change (change_read inputs.checks inputs.diff) in
     let runs = faults_of_runs (input_runs inputs ++ baseline_runs inputs) in
-    none_both (number_faults Log inputs.logs) (number_faults Baseline inputs.baselines ++ (source_faults 0 0 sources ++ (file ++ (change ++ runs)))) none.logs
-    (none_both (number_faults Baseline inputs.baselines) (source_faults 0 0 sources ++ (file ++ (change ++ runs))) none.baselines
-    (none_both (source_faults 0 0 sources) (file ++ (change ++ runs)) none.sources
-    (none_both file (change ++ runs) none.file
+    none_both (number_faults Log inputs.logs) (number_faults Baseline inputs.baselines ++ (source_faults 0 0 sources ++ (file ++ (policy ++ (change ++ runs))))) none.logs
+    (none_both (number_faults Baseline inputs.baselines) (source_faults 0 0 sources ++ (file ++ (policy ++ (change ++ runs)))) none.baselines
+    (none_both (source_faults 0 0 sources) (file ++ (policy ++ (change ++ runs))) none.sources
+    (none_both file (policy ++ (change ++ runs)) none.file
+    (none_both policy (change ++ runs) none.policy
     (none_both change runs none.change
     (faults-append (input_runs inputs) (baseline_runs inputs)
-    ∙ none_both (faults_of_runs (input_runs inputs)) (faults_of_runs (baseline_runs inputs)) none.log_runs none.older_runs)))))
+    ∙ none_both (faults_of_runs (input_runs inputs)) (faults_of_runs (baseline_runs inputs)) none.log_runs none.older_runs))))))
 
 -- sources that are read in two parts
 module _ (checks : Checks) (logs more baselines others : List (List ℕ)) where
@@ -178,6 +194,7 @@ module _ (inputs : Inputs) (logs more baselines others : List (List ℕ)) where
       baselines = fewer_sources Baseline (baselines ++ others) baselines (few baselines others).0 faultless.baselines;
       sources = first_sources (reading_checks inputs) logs more baselines others faultless.sources;
       file = faultless.file;
+      policy = faultless.policy;
       change = faultless.change;
       log_runs = log_parts.0;
       older_runs = older_parts.0;
@@ -189,6 +206,7 @@ module _ (inputs : Inputs) (logs more baselines others : List (List ℕ)) where
       baselines = fewer_sources Baseline (baselines ++ others) others (few baselines others).1 faultless.baselines;
       sources = second_sources (reading_checks inputs) logs more baselines others faultless.sources;
       file = faultless.file;
+      policy = faultless.policy;
       change = faultless.change;
       log_runs = log_parts.1;
       older_runs = older_parts.1;

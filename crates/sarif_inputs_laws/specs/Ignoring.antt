@@ -20,8 +20,8 @@ abbrev pub AreReadWithout : Inputs → List (List ℕ) → List (List ℕ) → T
 AreReadWithout inputs those these =
     AllZip (IsReadWithout inputs.checks.allow_external inputs.checks.ignored) those these
 
--- the merge of these logs and baselines with the same suppression file, diff, date and requirements, which ignores
--- nothing
+-- the merge of these logs and baselines with the same suppression file, policy, diff, date and requirements, which
+-- ignores nothing
 abbrev pub ignoring_none : Inputs → List (List ℕ) → List (List ℕ) → Inputs
 ignoring_none inputs logs baselines =
     record inputs {

@@ -1,4 +1,4 @@
--- Two merges with the same suppression file, diff, date and requirements, and the merge of the inputs of both.
+-- Two merges with the same suppression file, policy, diff, date and requirements, and the merge of the inputs of both.
 use Rattle.std.specs.Prelude.{◌≡◌, ◌&&◌, ◌++◌, ℕ, List, [], Option, Some, Ok, length, slice_get}
 use Rattle.sarif_model.specs.declared.record.Record.{Record}
 use Rattle.sarif_evidence.specs.declared.version.MatchingVersion.{MatchingVersion}
@@ -13,7 +13,7 @@ use Rattle.sarif_runs.specs.Judging.{records_of, run_values}
 use Rattle.sarif_inputs.specs.Faults.{faults_of}
 use Rattle.sarif_inputs.specs.Inputs.{Inputs, baseline_runs, input_runs}
 
--- the same suppression file, diff, date and requirements, with these logs and baselines
+-- the same suppression file, policy, diff, date and requirements, with these logs and baselines
 abbrev pub with_sources : Inputs → List (List ℕ) → List (List ℕ) → Inputs
 with_sources inputs logs baselines = record inputs { logs = logs; baselines = baselines }
 

@@ -8,9 +8,9 @@ ghost use Rattle.sarif_inputs_laws.specs.Ignoring.{AreReadWithout, HasSameRecord
 ghost use Rattle.sarif_inputs_laws.specs.Parts.{HasParts, IsMatchedAs, baseline_in, current_in, with_sources};
 
 /// Parts of an accepted merge are accepted. Let logs and then others, with baselines and then others, have no errors. Then
-/// the logs with their baselines have none, nor have the others with theirs, with the same suppression file, diff, date
-/// and requirements. The runs and results are those of the first part and then those of the second, and an entry is unused
-/// exactly if it is unused in both.
+/// the logs with their baselines have none, nor have the others with theirs, with the same suppression file, policy,
+/// diff, date and requirements. The runs and results are those of the first part and then those of the second, and an
+/// entry is unused exactly if it is unused in both.
 pub fn parts_of_a_merge_are_accepted()
     ensures { (inputs : Inputs) (logs more baselines others : List (List ℕ))
         → faults_of (with_sources inputs (logs ++ more) (baselines ++ others)) ≡ []

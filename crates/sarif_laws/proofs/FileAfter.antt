@@ -153,6 +153,7 @@ module _ (inputs : Inputs) (policy : Policy) (marks : Marks) (renewal : Renewal)
         baselines = fine.baselines;
         sources = fine.sources;
         file = ap file_faults later_read;
+        policy = fine.policy;
         change = fine.change;
         log_runs = fine.log_runs;
         older_runs = fine.older_runs;

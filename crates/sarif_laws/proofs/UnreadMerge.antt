@@ -1,6 +1,7 @@
 -- In version 2 of matching, records may have regions and snippets that nothing reads.
 use Rattle.std.proofs.Common.{◌≡◌, ◌++◌, ◌||◌, ℕ, Bool, true, false, List, [], ◌∷◌, map, refl, sym, ap, ap₂, ◌∙◌, append-nil}
 use Rattle.std.proofs.lemmas.List.Concat.{flat_map-append}
+use Rattle.std.specs.Prelude.{is_some}
 use Rattle.serde_json.specs.Data.{Data}
 use Rattle.sarif_model.specs.declared.merge_fault.Source.{Source}
 use Rattle.sarif_model.specs.declared.merge_fault.Source.TheVariants.{Log, Baseline}
@@ -11,6 +12,7 @@ use Rattle.sarif_entries.specs.File.{File}
 use Rattle.sarif_entries.specs.Given.{file_or_none}
 use Rattle.sarif_inputs.specs.ChangeIn.{change_read, faults_of_change}
 use Rattle.sarif_inputs.specs.Faults.{faults_of, file_faults, number_faults}
+use Rattle.sarif_inputs.specs.PolicyIn.{faults_of_policy, policy_read}
 use Rattle.sarif_inputs.specs.Inputs.{Inputs, all_runs, all_sources, baseline_runs, input_runs, looks_at_regions, numbered, placed, reading_checks}
 use Rattle.sarif_inputs.specs.Snippets.{compares_snippets, with_regions, with_regions_if}
 use Rattle.sarif_inputs.specs.SourceFaults.{source_faults}
@@ -124,7 +126,8 @@ module _ (inputs : Inputs) (two : inputs.checks.matching ≡ Two) (all : inputs.
   same_faults =
       ap₂ (λ sources runs. number_faults Log inputs.logs
       ++ (number_faults Baseline inputs.baselines ++ (sources ++ (file_faults (file_or_none inputs.suppressions inputs.today)
-      ++ (faults_of_change (change_read inputs.checks inputs.diff) ++ runs)))))
+      ++ (faults_of_policy (policy_read (is_some inputs.diff) inputs.policy)
+      ++ (faults_of_change (change_read inputs.checks inputs.diff) ++ runs))))))
       same_sources same_runs
 
   pub unread : IsSameMerge plain inputs

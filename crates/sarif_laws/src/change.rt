@@ -8,6 +8,7 @@ ghost use Rattle.sarif_counts.specs.Hits.{hits_of, verdict_of};
 ghost use Rattle.sarif_counts.specs.declared.gate_verdict.Verdict.TheVariants.{Fail};
 ghost use Rattle.sarif_inputs.specs.Faults.{faults_of};
 ghost use Rattle.sarif_inputs.specs.Inputs.{Inputs};
+ghost use Rattle.sarif_inputs.specs.PolicyIn.{faults_of_policy, policy_read};
 ghost use Rattle.sarif_log.specs.Copies.{naming};
 ghost use Rattle.sarif_log.specs.Log.{log_with};
 ghost use Rattle.sarif_merge.specs.Life.{merge_counted};
@@ -44,10 +45,13 @@ pub fn a_diff_narrows_the_hits()
         ≡ hits_given inputs policy + outside_of change policy (log.runs_counted inputs) }
 {}
 
-/// A merge without errors has none without its diff. Without a diff, the gate counts the hits of all results.
+/// A merge without errors and without a policy has none without its diff. If it has a policy, only the policy may have an
+/// error then: a condition on the change needs a diff. Without a diff, the gate counts the hits of all results.
 pub fn without_a_diff_all_hits_count()
-    ensures faultless { (inputs : Inputs)
+    ensures faultless { (inputs : Inputs) → inputs.policy ≡ None
         → faults_of inputs ≡ [] → faults_of (without_diff inputs) ≡ [] }
+    ensures needed { (inputs : Inputs) → faults_of inputs ≡ []
+        → faults_of (without_diff inputs) ≡ faults_of_policy (policy_read false inputs.policy) }
     ensures log { (inputs : Inputs) (policy : Policy) → inputs.diff ≡ None
         → log.merged_log inputs policy ≡ log_with (naming (log.copies_in_log inputs)
         (gate_of (count_of (log.runs_counted inputs)) policy (log.without_of inputs)

@@ -183,6 +183,7 @@ none_in_any_order inputs logs permuted none =
           one_after_other 0 0 new before (none_on_the_way checks 0 0 0 logs read last)
           (ap₂ (λ m n. source_faults (0 + m) (0 + n) before) same_runs same_results ∙ halves.1);
       file = fine.file;
+      policy = fine.policy;
       change = fine.change;
       log_runs = all_sound checks 0 logs
           (sum_in_order (faulty checks) inputs.logs logs permuted ∙ none_faulty checks 0 inputs.logs fine.log_runs);

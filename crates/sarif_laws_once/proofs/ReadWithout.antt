@@ -187,6 +187,7 @@ none_with inputs logs baselines none read now before =
           (no_larger_each checks snippets Baseline 0 (copy_marks (baseline_runs inputs)) inputs.baselines baselines read.before))
           fine.sources;
       file = fine.file;
+      policy = fine.policy;
       change = fine.change;
       log_runs = now;
       older_runs = before;

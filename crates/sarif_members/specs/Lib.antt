@@ -1,3 +1,4 @@
 pub mod Fingerprints
+pub mod Internal
 pub mod OwnMembers
 pub mod Regions

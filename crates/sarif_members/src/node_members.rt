@@ -58,17 +58,15 @@ pub(crate) fn member_at<'t, 'a>(node: &Node<'t, 'a>, name: &str) -> Option<Node<
     }
 }
 
-/// The string `name` of an object; `None` if the member is missing or null, or if this is not an object. Returns
-/// `wrong` if the member is not a string.
-pub(crate) fn text_at<'a>(
-    node: &Node<'_, 'a>,
-    name: &str,
+/// The string that a member is, if it is there. Returns `wrong` if it is not a string.
+pub(crate) fn text_in<'a>(
+    member: Option<Node<'_, 'a>>,
     wrong: Fault,
 ) -> Result<Option<&'a str>, Fault>
     ensures { result_map (option_map (λ s. s.now)) result
-        ≡ said.text_at wrong name.now (value_at node.now) }
+        ≡ said.of_kind wrong as_str (option_map value_at member.entry) }
 {
-    match member_at(node, name) {
+    match member {
         None => Ok(None),
         Some(member) => match text_of(&member) {
             Some(text) => Ok(Some(text)),
@@ -77,17 +75,24 @@ pub(crate) fn text_at<'a>(
     }
 }
 
-/// The object `name` of an object; `None` if the member is missing or null, or if this is not an object. Returns
-/// `wrong` if the member is not an object.
-pub(crate) fn object_at<'t, 'a>(
-    node: &Node<'t, 'a>,
-    name: &str,
+/// The string `name` of an object; `None` if the member is missing or null, or if this is not an object. Returns
+/// `wrong` if the member is not a string.
+fn text_at<'a>(node: &Node<'_, 'a>, name: &str, wrong: Fault) -> Result<Option<&'a str>, Fault>
+    ensures { result_map (option_map (λ s. s.now)) result
+        ≡ said.text_at wrong name.now (value_at node.now) }
+{
+    text_in(member_at(node, name), wrong)
+}
+
+/// The object that a member is, if it is there. Returns `wrong` if it is not an object.
+pub(crate) fn object_in<'t, 'a>(
+    member: Option<Node<'t, 'a>>,
     wrong: Fault,
 ) -> Result<Option<Node<'t, 'a>>, Fault>
     ensures { result_map (option_map value_at) result
-        ≡ said.object_at wrong name.now (value_at node.now) }
+        ≡ said.of_kind wrong said.itself_if_object (option_map value_at member.entry) }
 {
-    match member_at(node, name) {
+    match member {
         None => Ok(None),
         Some(member) => {
             if is_object(&member) {
@@ -97,6 +102,19 @@ pub(crate) fn object_at<'t, 'a>(
             }
         }
     }
+}
+
+/// The object `name` of an object; `None` if the member is missing or null, or if this is not an object. Returns
+/// `wrong` if the member is not an object.
+fn object_at<'t, 'a>(
+    node: &Node<'t, 'a>,
+    name: &str,
+    wrong: Fault,
+) -> Result<Option<Node<'t, 'a>>, Fault>
+    ensures { result_map (option_map value_at) result
+        ≡ said.object_at wrong name.now (value_at node.now) }
+{
+    object_in(member_at(node, name), wrong)
 }
 
 /// The number, where this is one.
@@ -115,12 +133,12 @@ fn integer_of(node: &Node<'_, '_>) -> Option<i64>
     number_of(node)?.as_i64()
 }
 
-/// The index `name` of an object: an integer from 0 to 2^32 - 1; `None` if the member is missing, null or -1. Returns
-/// `wrong` if it is anything else.
-pub(crate) fn index_at(node: &Node<'_, '_>, name: &str, wrong: Fault) -> Result<Option<u32>, Fault>
-    ensures { result ≡ said.index_at wrong name.now (value_at node.now) }
+/// The index that a member is: an integer from 0 to 2^32 - 1; `None` if it is missing or -1. Returns `wrong` if it is
+/// anything else.
+pub(crate) fn index_in(member: Option<Node<'_, '_>>, wrong: Fault) -> Result<Option<u32>, Fault>
+    ensures { result ≡ said.index_of_member wrong (option_map value_at member.entry) }
 {
-    match member_at(node, name) {
+    match member {
         None => Ok(None),
         Some(member) => match integer_of(&member) {
             Some(-1) => Ok(None),
@@ -131,6 +149,14 @@ pub(crate) fn index_at(node: &Node<'_, '_>, name: &str, wrong: Fault) -> Result<
             None => Err(wrong),
         },
     }
+}
+
+/// The index `name` of an object: an integer from 0 to 2^32 - 1; `None` if the member is missing, null or -1. Returns
+/// `wrong` if it is anything else.
+fn index_at(node: &Node<'_, '_>, name: &str, wrong: Fault) -> Result<Option<u32>, Fault>
+    ensures { result ≡ said.index_at wrong name.now (value_at node.now) }
+{
+    index_in(member_at(node, name), wrong)
 }
 
 /// The integer, where this is one from 0 to 2^64 - 1.
@@ -231,9 +257,31 @@ fn elements_of<'t, 'a>(
     node.items(alloc)
 }
 
+/// The elements of the array that a member is; none if it is missing. Returns `wrong` if it is not an array.
+#[tactic(auto, using(crate::proofs::NodeMembers::element_steps))]
+fn elements_in<'t, 'a>(
+    alloc: Global,
+    member: Option<Node<'t, 'a>>,
+    wrong: Fault,
+) -> Result<Vec<Node<'t, 'a>>, Refusal<Fault>>
+    ensures ok { IfOk result (λ nodes.
+        said.elements_of (said.of_kind wrong as_array (option_map value_at member.entry))
+        ≡ Ok (map value_at nodes.items)) }
+    ensures err { IfFault result (λ fault.
+        said.elements_of (said.of_kind wrong as_array (option_map value_at member.entry))
+        ≡ Err fault) }
+{
+    match member {
+        None => Ok(Vec::new(alloc)),
+        Some(member) => match elements_of(alloc, &member)? {
+            Some(nodes) => Ok(nodes),
+            None => Err(Refusal::Fault(wrong)),
+        },
+    }
+}
+
 /// The elements of the array `name` of an object; none if the member is missing or null. Returns `wrong` if the member
 /// is not an array.
-#[tactic(auto, using(crate::proofs::NodeMembers::element_steps))]
 pub(crate) fn elements_at<'t, 'a>(
     alloc: Global,
     node: &Node<'t, 'a>,
@@ -245,13 +293,7 @@ pub(crate) fn elements_at<'t, 'a>(
     ensures err { IfFault result
         (λ fault. said.elements_at wrong name.now (value_at node.now) ≡ Err fault) }
 {
-    match member_at(node, name) {
-        None => Ok(Vec::new(alloc)),
-        Some(member) => match elements_of(alloc, &member)? {
-            Some(nodes) => Ok(nodes),
-            None => Err(Refusal::Fault(wrong)),
-        },
-    }
+    elements_in(alloc, member_at(node, name), wrong)
 }
 
 /// Whether all of these are objects.
@@ -266,20 +308,21 @@ fn are_objects(nodes: &[Node<'_, '_>]) -> bool
     true
 }
 
-/// The elements of the array of objects `name` of an object; none if the member is missing or null. Returns `wrong` if
-/// the member is not an array, or an element is not an object.
-pub(crate) fn objects_at<'t, 'a>(
+/// The elements of the array of objects that a member is; none if it is missing. Returns `wrong` if it is not an array,
+/// or an element is not an object.
+pub(crate) fn objects_in<'t, 'a>(
     alloc: Global,
-    node: &Node<'t, 'a>,
-    name: &str,
+    member: Option<Node<'t, 'a>>,
     wrong: Fault,
 ) -> Result<Vec<Node<'t, 'a>>, Refusal<Fault>>
-    ensures ok { IfOk result (λ nodes. said.objects_at wrong name.now (value_at node.now)
-        ≡ Ok (map value_at nodes.items)) }
-    ensures err { IfFault result
-        (λ fault. said.objects_at wrong name.now (value_at node.now) ≡ Err fault) }
+    ensures ok { IfOk result (λ nodes. and_then
+        (said.elements_of (said.of_kind wrong as_array (option_map value_at member.entry)))
+        (said.if_objects wrong) ≡ Ok (map value_at nodes.items)) }
+    ensures err { IfFault result (λ fault. and_then
+        (said.elements_of (said.of_kind wrong as_array (option_map value_at member.entry)))
+        (said.if_objects wrong) ≡ Err fault) }
 {
-    let nodes = elements_at(alloc, node, name, wrong)?;
+    let nodes = elements_in(alloc, member, wrong)?;
     if are_objects(nodes.as_slice()) {
         Ok(nodes)
     } else {
@@ -317,19 +360,18 @@ fn first_of_array<'t, 'a>(node: &Node<'t, 'a>, wrong: Fault) -> Result<Option<No
     }
 }
 
-/// The first element of the array `name` of an object; `None` if the member is missing or null, or has no elements.
-/// Returns `wrong` if the member is not an array, or the element is not an object, even if it is null.
+/// The first element of the array that a member is; `None` if it is missing or has no elements. Returns `wrong` if it is
+/// not an array, or the element is not an object, even if it is null.
 #[tactic(auto, using(crate::proofs::NodeMembers::then_first))]
-pub(crate) fn first_object_at<'t, 'a>(
-    node: &Node<'t, 'a>,
-    name: &str,
+pub(crate) fn first_object_in<'t, 'a>(
+    member: Option<Node<'t, 'a>>,
     wrong: Fault,
 ) -> Result<Option<Node<'t, 'a>>, Fault>
-    ensures { result_map (option_map value_at) result
-        ≡ and_then (said.elements_at wrong name.now (value_at node.now))
+    ensures { result_map (option_map value_at) result ≡ and_then
+        (said.elements_of (said.of_kind wrong as_array (option_map value_at member.entry)))
         (λ ds. said.if_object wrong (said.first_of ds)) }
 {
-    let Some(member) = member_at(node, name) else {
+    let Some(member) = member else {
         return Ok(None);
     };
     match first_of_array(&member, wrong)? {

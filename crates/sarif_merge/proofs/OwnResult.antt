@@ -3,6 +3,7 @@ use Rattle.std.proofs.Common.{◌≡◌, ℕ, zero, suc, ◌+◌, ◌<◌, ◌�
 use Rattle.std.proofs.lemmas.List.{drop-drop, get_or-append-add, get_or-drop, get_or-take, get_or_append_left, length-drop, length-map, length-take-le}
 use Rattle.std.proofs.lemmas.List.Concat.{flat_map-append}
 use Rattle.std.specs.List.{AllByRecursion, range_with_len}
+use Rattle.std.specs.Prelude.{is_some}
 use Rattle.serde_json.specs.Data.{Data, null, boolean, number, string, array, object, Items, Members}
 use Rattle.serde_json.specs.Find.{as_array, get_member}
 use Rattle.serde_json.specs.View.{items_of as items_as_data}
@@ -35,6 +36,7 @@ use Rattle.sarif_results.proofs.JudgedCounts.{no_fault, no_faults_here, no_fault
 use Rattle.sarif_log.proofs.Limits.{limited_at_place, limited_long}
 use Rattle.sarif_log.proofs.Sides.{states_long}
 use Rattle.sarif_inputs.specs.ChangeIn.{change_read, faults_of_change}
+use Rattle.sarif_inputs.specs.PolicyIn.{faults_of_policy, policy_read}
 use Rattle.sarif_inputs.specs.Faults.{faults_of, file_faults, number_faults}
 use Rattle.sarif_entries.specs.Given.{file_or_none}
 use Rattle.sarif_inputs.specs.Inputs.{Inputs, all_runs, all_sources, baseline_runs, input_runs, reading_checks, record_options}
@@ -220,12 +222,14 @@ faultless_runs inputs none =
     let runs = faults_of_runs (all_runs inputs) in
     let files = file_faults (file_or_none inputs.suppressions inputs.today) in
     let sources = source_faults 0 0 (all_sources inputs) in
+    let policy = faults_of_policy (policy_read (is_some inputs.diff) inputs.policy) in
     let change = faults_of_change (change_read inputs.checks inputs.diff) in
-    let after_logs = no_faults_left (number_faults Log inputs.logs) (number_faults Baseline inputs.baselines ++ (sources ++ (files ++ (change ++ runs)))) none in
-    let after_baselines = no_faults_left (number_faults Baseline inputs.baselines) (sources ++ (files ++ (change ++ runs))) after_logs in
-    let after_sources = no_faults_left sources (files ++ (change ++ runs)) after_baselines in
-    let after_files = no_faults_left files (change ++ runs) after_sources in
-    let of_runs = no_faults_left change runs after_files in
+    let after_logs = no_faults_left (number_faults Log inputs.logs) (number_faults Baseline inputs.baselines ++ (sources ++ (files ++ (policy ++ (change ++ runs))))) none in
+    let after_baselines = no_faults_left (number_faults Baseline inputs.baselines) (sources ++ (files ++ (policy ++ (change ++ runs)))) after_logs in
+    let after_sources = no_faults_left sources (files ++ (policy ++ (change ++ runs))) after_baselines in
+    let after_files = no_faults_left files (policy ++ (change ++ runs)) after_sources in
+    let after_policy = no_faults_left policy (change ++ runs) after_files in
+    let of_runs = no_faults_left change runs after_policy in
     no_faults_here (faults_of_runs (input_runs inputs)) (faults_of_runs (baseline_runs inputs))
     (sym (flat_map-append run_faults (input_runs inputs) (baseline_runs inputs)) ∙ of_runs)
 

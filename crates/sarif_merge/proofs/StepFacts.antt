@@ -1,7 +1,7 @@
 -- What each step of a merge makes, from what its calls give.
-use Rattle.std.proofs.Common.{◌≡◌, ℕ, ◌≤◌, ◌++◌, ◌⊎◌, List, [], ◌||◌, true, false, Option, Some, Result, Ok, Vec, Global, inl, inr, length, map, arith, refl, sym, ap, subst, ◌∙◌, append-nil}
+use Rattle.std.proofs.Common.{◌≡◌, ℕ, ◌≤◌, ◌++◌, ◌⊎◌, List, [], ◌||◌, true, false, Option, Some, None, option_map, Result, Ok, Vec, Global, inl, inr, length, map, arith, refl, sym, ap, subst, ◌∙◌, append-nil}
 use Rattle.std.proofs.lemmas.List.{length-map}
-use Rattle.std.specs.Prelude.{Bool}
+use Rattle.std.specs.Prelude.{Bool, is_some}
 use Rattle.std.specs.List.{AllByRecursion}
 use Rattle.json.specs.Token.{Token}
 use Rattle.json_parts.specs.Mark.{without_mark}
@@ -25,12 +25,14 @@ use Rattle.sarif_results.specs.Internal.Outcomes.{all_outcomes}
 use Rattle.sarif_results.specs.declared.judged.Judged.{Judged}
 use Rattle.sarif_inputs.specs.ChangeIn.{change_or_none, change_read, faults_of_change}
 use Rattle.sarif_inputs.specs.Faults.{faults_of, file_faults}
+use Rattle.sarif_inputs.specs.PolicyIn.{conditions_or_none, faults_of_policy, policy_read}
+use Rattle.sarif_policy.specs.declared.condition.GateCondition.{GateCondition}
 use Rattle.sarif_scope.specs.declared.gated.GatedChange.{GatedChange}
 use Rattle.sarif_entries.specs.Given.{file_or_none}
 use Rattle.sarif_inputs.specs.Internal.Indexes.{AreIndexesOf}
 use Rattle.sarif_inputs.specs.Inputs.{all_runs, all_sources, baseline_runs, input_runs, numbered, placed, reading_checks}
 use Rattle.sarif_inputs.specs.Internal.ReadSoFar.{sources_of}
-use Rattle.sarif_inputs.specs.Snippets.{compares_snippets, with_regions_if}
+use Rattle.sarif_inputs.specs.Snippets.{compare_snippets, with_regions_if}
 use Rattle.sarif_inputs.proofs.ReadAgain.{faults_read, length_read, regions_read, values_read}
 use Rattle.sarif_inputs.specs.Internal.Runs.{AreRunsOf}
 use Rattle.sarif_inputs.specs.SourceFaults.{source_faults}
@@ -52,7 +54,7 @@ use Rattle.sarif_upkeep.specs.Life.{life_faults}
 use Rattle.sarif_merge.specs.Life.{IsLifeOf, IsRefusal}
 use Rattle.sarif_merge.specs.Merged.{IsMerged}
 use Rattle.sarif_merge.specs.MergedLog.{change_given, file_given, file_in}
-use Rattle.sarif_merge.specs.Internal.Steps.{AreBaselinesJudged, AreBaselinesOpened, AreBaselinesReady, AreIndexesIn, AreLogsJudged, AreLogsOpened, AreLogsReady, AreLogsSound, AreOpened, IsChangeIn, IsFileIn, IsMergeOf, IsReady, IsRead, IsRejection, change_read_in, checks_in, inputs_in, policy_in}
+use Rattle.sarif_merge.specs.Internal.Steps.{AreBaselinesJudged, AreBaselinesOpened, AreBaselinesReady, AreIndexesIn, AreLogsJudged, AreLogsOpened, AreLogsReady, AreLogsSound, AreOpened, IsChangeIn, IsFileIn, IsMergeOf, IsPolicyIn, IsReady, IsRead, IsRejection, change_read_in, checks_in, inputs_in, policy_in, policy_read_in}
 use Rattle.sarif_merge.specs.declared.steps.Merging.{Merging}
 use Rattle.sarif_merge.proofs.ReadObjects.{objects_in}
 use Rattle.sarif_merge.proofs.MergeAnswers.{are_indexes, assembled_is, faults_apart, left_after_first, number_is_no_fault, same_kept, same_large, same_runs}
@@ -103,8 +105,12 @@ unfolding AreBaselinesOpened
 baselines_opened m runs read = record { are = read.baseline; few = omega (arith, read.few); few_results = omega (arith, read.few_results) }
 
 -- the errors of the diff and of the runs
+abbrev after_policy : Merging → List MergeFault
+after_policy m = faults_of_change (change_read_in m) ++ faults_of_runs (all_runs (inputs_in m))
+
+-- the errors of the policy, of the diff and of the runs
 abbrev after_file : Merging → List MergeFault
-after_file m = faults_of_change (change_read_in m) ++ faults_of_runs (all_runs (inputs_in m))
+after_file m = faults_of_policy (policy_read_in m) ++ after_policy m
 
 -- what is left of the errors once the sources are read
 after_sources : (m : Merging) → length (inputs_in m).logs ≤ most_sources → length (inputs_in m).baselines ≤ most_sources
@@ -160,20 +166,52 @@ rejected_file m bytes fault read is_bytes found quiet =
     rejected_by m (file_faults (file_or_none (inputs_in m).suppressions (inputs_in m).today)) (after_file m) fault read
     (subst (λ b. IsOutOfResources fault ⊎ (first (file_faults (file_or_none b (inputs_in m).today)) ≡ Some fault)) is_bytes found) quiet
 
+-- ---- read the policy
+
+some_mapped : {X Y : Type 0} (f : X → Y) (option : Option X) → is_some option ≡ is_some (option_map f option)
+some_mapped f None = refl
+some_mapped f (Some x) = refl
+
+-- the policy that is read is that of the merge
+same_policy : (m : Merging) (bytes : Option (List ℕ)) (has_diff : Bool) → bytes ≡ (inputs_in m).policy → has_diff ≡ is_some m.sources.now.diff
+    → policy_read has_diff bytes ≡ policy_read_in m
+same_policy m bytes has_diff is_bytes has =
+    ap (policy_read has_diff) is_bytes
+    ∙ ap (λ b. policy_read b (inputs_in m).policy) (has ∙ some_mapped (λ (v : Vec ℕ Global). v.items) m.sources.now.diff)
+
+pub policy_is_in : (m : Merging) (file : File) (bytes : Option (List ℕ)) (has_diff : Bool) (conditions : Option (List GateCondition))
+    → IsFileIn m file → bytes ≡ (inputs_in m).policy → has_diff ≡ is_some m.sources.now.diff
+    → conditions ≡ conditions_or_none (policy_read has_diff bytes) → faults_of_policy (policy_read has_diff bytes) ≡ [] → IsPolicyIn m conditions
+unfolding IsFileIn IsPolicyIn
+policy_is_in m file bytes has_diff conditions read is_bytes has is none =
+    let same = same_policy m bytes has_diff is_bytes has in
+    let left : faults_of_policy (policy_read_in m) ≡ [] = ap faults_of_policy (sym same) ∙ none in
+    (ap conditions_or_none (sym same) ∙ sym is, read.1 ∙ ap (λ faults. faults ++ after_policy m) left)
+
+pub rejected_policy : (m : Merging) (file : File) (bytes : Option (List ℕ)) (has_diff : Bool) (fault : MergeFault)
+    → IsFileIn m file → bytes ≡ (inputs_in m).policy → has_diff ≡ is_some m.sources.now.diff
+    → IsOutOfResources fault ⊎ (first (faults_of_policy (policy_read has_diff bytes)) ≡ Some fault) → exit_status fault.cause ≡ 2 → IsRejection m fault
+unfolding IsFileIn
+rejected_policy m file bytes has_diff fault read is_bytes has found quiet =
+    rejected_by m (faults_of_policy (policy_read_in m)) (after_policy m) fault read.1
+    (subst (λ said. IsOutOfResources fault ⊎ (first (faults_of_policy said) ≡ Some fault)) (same_policy m bytes has_diff is_bytes has) found) quiet
+
 -- ---- read the diff
 
-pub change_is_in : (m : Merging) (file : File) (bytes : Option (List ℕ)) (change : Option GatedChange) → IsFileIn m file → bytes ≡ (inputs_in m).diff
+pub change_is_in : (m : Merging) (conditions : Option (List GateCondition)) (bytes : Option (List ℕ)) (change : Option GatedChange) → IsPolicyIn m conditions
+    → bytes ≡ (inputs_in m).diff
     → change ≡ change_or_none (change_read (checks_in m) bytes) → faults_of_change (change_read (checks_in m) bytes) ≡ [] → IsChangeIn m change
-unfolding IsFileIn IsChangeIn
-change_is_in m file bytes change read is_bytes is none =
+unfolding IsPolicyIn IsChangeIn
+change_is_in m conditions bytes change read is_bytes is none =
     let same : change_read (checks_in m) bytes ≡ change_read_in m = ap (change_read (checks_in m)) is_bytes in
     let left : faults_of_change (change_read_in m) ≡ [] = ap faults_of_change (sym same) ∙ none in
     (ap change_or_none (sym same) ∙ sym is, read.1 ∙ ap (λ faults. faults ++ faults_of_runs (all_runs (inputs_in m))) left)
 
-pub rejected_diff : (m : Merging) (file : File) (bytes : Option (List ℕ)) (fault : MergeFault) → IsFileIn m file → bytes ≡ (inputs_in m).diff
+pub rejected_diff : (m : Merging) (conditions : Option (List GateCondition)) (bytes : Option (List ℕ)) (fault : MergeFault) → IsPolicyIn m conditions
+    → bytes ≡ (inputs_in m).diff
     → IsOutOfResources fault ⊎ (first (faults_of_change (change_read (checks_in m) bytes)) ≡ Some fault) → exit_status fault.cause ≡ 2 → IsRejection m fault
-unfolding IsFileIn
-rejected_diff m file bytes fault read is_bytes found quiet =
+unfolding IsPolicyIn
+rejected_diff m conditions bytes fault read is_bytes found quiet =
     rejected_by m (faults_of_change (change_read_in m)) (faults_of_runs (all_runs (inputs_in m))) fault read.1
     (subst (λ b. IsOutOfResources fault ⊎ (first (faults_of_change (change_read (checks_in m) b)) ≡ Some fault)) is_bytes found) quiet
 
@@ -184,7 +222,7 @@ same_change m change read = sym read.0
 
 -- ---- read snippets
 
--- runs with regions and snippets, if an entry compares snippets
+-- runs with regions and snippets, if a filter or an entry compares snippets
 ready_side : (wanted : Bool) (before after : List Placed) (old new : List OpenedRun) → AreOpened before old
     → map placed_of new ≡ with_regions_if wanted (map placed_of old) → with_regions_if wanted before ≡ after → AreOpened after new
 ready_side wanted before after old new opened made are =
@@ -196,26 +234,31 @@ ready_side wanted before after old new opened made are =
       few_results = subst (λ ds. results_total ds ≤ most_results) (sym (ap run_values made ∙ values_read wanted (map placed_of old))) opened.few_results;
     }
 
--- whether an entry of the file compares snippets
-snippets_in : (m : Merging) (file : File) → IsFileIn m file → compares_snippets file ≡ (inputs_in m).snippets
-unfolding IsFileIn
-snippets_in m file read = ap (λ r. compares_snippets (file_in r)) (sym read.0)
+-- whether a filter of the policy or an entry of the file compares snippets
+snippets_in : (m : Merging) (conditions : Option (List GateCondition)) (file : File) → IsPolicyIn m conditions → IsFileIn m file
+    → compare_snippets conditions file ≡ (inputs_in m).snippets
+unfolding IsFileIn IsPolicyIn
+snippets_in m conditions file looked read =
+    ap (λ r. compare_snippets conditions (file_in r)) (sym read.0)
+    ∙ ap (λ c. compare_snippets c (file_in (file_or_none (inputs_in m).suppressions (inputs_in m).today))) (sym looked.0)
 
-pub logs_ready : (m : Merging) (file : File) (old new : List OpenedRun) → AreLogsOpened m old → IsFileIn m file
-    → map placed_of new ≡ with_regions_if (compares_snippets file) (map placed_of old) → AreLogsReady m new
+pub logs_ready : (m : Merging) (conditions : Option (List GateCondition)) (file : File) (old new : List OpenedRun) → AreLogsOpened m old
+    → IsPolicyIn m conditions → IsFileIn m file
+    → map placed_of new ≡ with_regions_if (compare_snippets conditions file) (map placed_of old) → AreLogsReady m new
 unfolding AreLogsOpened AreLogsReady
-logs_ready m file old new opened read made =
+logs_ready m conditions file old new opened looked read made =
     let inputs = inputs_in m in
     ready_side inputs.snippets (placed (numbered inputs.checks Log 0 inputs.logs)) (input_runs inputs) old new opened
-    (made ∙ ap (λ b. with_regions_if b (map placed_of old)) (snippets_in m file read)) (regions_read inputs.snippets inputs.checks Log 0 inputs.logs)
+    (made ∙ ap (λ b. with_regions_if b (map placed_of old)) (snippets_in m conditions file looked read)) (regions_read inputs.snippets inputs.checks Log 0 inputs.logs)
 
-pub baselines_ready : (m : Merging) (file : File) (old new : List OpenedRun) → AreBaselinesOpened m old → IsFileIn m file
-    → map placed_of new ≡ with_regions_if (compares_snippets file) (map placed_of old) → AreBaselinesReady m new
+pub baselines_ready : (m : Merging) (conditions : Option (List GateCondition)) (file : File) (old new : List OpenedRun) → AreBaselinesOpened m old
+    → IsPolicyIn m conditions → IsFileIn m file
+    → map placed_of new ≡ with_regions_if (compare_snippets conditions file) (map placed_of old) → AreBaselinesReady m new
 unfolding AreBaselinesOpened AreBaselinesReady
-baselines_ready m file old new opened read made =
+baselines_ready m conditions file old new opened looked read made =
     let inputs = inputs_in m in
     ready_side inputs.snippets (placed (numbered inputs.checks Baseline 0 inputs.baselines)) (baseline_runs inputs) old new opened
-    (made ∙ ap (λ b. with_regions_if b (map placed_of old)) (snippets_in m file read)) (regions_read inputs.snippets inputs.checks Baseline 0 inputs.baselines)
+    (made ∙ ap (λ b. with_regions_if b (map placed_of old)) (snippets_in m conditions file looked read)) (regions_read inputs.snippets inputs.checks Baseline 0 inputs.baselines)
 
 -- ---- judge
 

@@ -6,11 +6,12 @@ ghost use Rattle.sarif_log.specs.Assembled.{HasGate};
 ghost use Rattle.sarif_prepare.specs.Asked.{choice_in, reporting_in, upkeep_in};
 ghost use Rattle.sarif_model.specs.FirstFault.{IsOutOfResources};
 ghost use Rattle.sarif_inputs.specs.Faults.{faults_of, first_fault};
+ghost use Rattle.sarif_inputs.specs.PolicyIn.{conditions_in};
 ghost use Rattle.sarif_merge.specs.Given.{inputs_of};
 ghost use Rattle.sarif_merge.specs.Life.{IsLifeOf, IsRefusal, no_life};
 ghost use Rattle.sarif_merge.specs.Merged.{HoldsFirst, IsMerged};
 ghost use Rattle.sarif_merge.specs.MergedLog.{change_given, copies_in_log, expired_in, inputs_in_log, output_text, runs_counted, unused_counted, without_of};
-ghost use Rattle.sarif_merge.specs.Internal.Steps.{AreBaselinesOpened, AreLogsOpened, IsChangeIn, IsFileIn, IsReady, IsRejection};
+ghost use Rattle.sarif_merge.specs.Internal.Steps.{AreBaselinesOpened, AreLogsOpened, IsChangeIn, IsFileIn, IsPolicyIn, IsReady, IsRejection};
 ghost use Rattle.sarif_model.specs.Limits.{most_sources};
 
 use crate::steps::{FilesRead, Merging};
@@ -40,18 +41,19 @@ fn judge_few<G: Gate + Sync, R: Threads + Wait + Sync>(
     requires logs { AreLogsOpened merging.now runs.current.items }
     requires baselines { AreBaselinesOpened merging.now runs.baseline.items }
     requires file { IsFileIn merging.now files.now.file.now }
+    requires policy { IsPolicyIn merging.now (conditions_in files.now.policy.now) }
     requires change { IsChangeIn merging.now files.now.change.now }
     ensures prepared { IfOk result (IsReady merging.now) }
     ensures refused { IfErr result (IsRejection merging.now) }
 {
-    let Runs { current, baseline } = merging.read_snippets(runs, files.file);
+    let Runs { current, baseline } = merging.read_snippets(runs, files);
     let logs = merging.judge_logs(rt, alloc, current, files, observer)?;
     let baselines = merging.judge_baselines(rt, alloc, baseline, files, observer)?;
     merging.prepare(rt, alloc, logs, baselines, files)
 }
 
-/// Everything that is written for a merge of these runs with this suppression file: reads the diff, and then steps 4 to
-/// 6. The change is released at its end.
+/// Everything that is written for a merge of these runs with this suppression file: reads the policy and the diff, and
+/// then steps 4 to 6. The policy and the change are released at its end.
 fn judge_change<G: Gate + Sync, R: Threads + Wait + Sync>(
     rt: &R,
     alloc: Global,
@@ -66,9 +68,11 @@ fn judge_change<G: Gate + Sync, R: Threads + Wait + Sync>(
     ensures prepared { IfOk result (IsReady merging.now) }
     ensures refused { IfErr result (IsRejection merging.now) }
 {
-    let change = merging.read_diff(alloc, file)?;
+    let policy = merging.read_policy(alloc, file)?;
+    let change = merging.read_diff(alloc, &policy)?;
     let files = FilesRead {
         file,
+        policy: &policy,
         change: &change,
     };
     judge_few(rt, alloc, merging, runs, &files, observer)
@@ -140,10 +144,10 @@ pub(crate) fn tell_nothing(_facts: &Facts<'_>) -> Result<(), AllocError> {
 /// diff, only results inside its change can be hits. The merged log and its counts depend only on the sources, the
 /// policy and today's date, and neither on the number of workers nor on their order. `observer` observes the judging of
 /// results. A rejection is the first error of the inputs with its place: `TooMany` if there are too many logs or
-/// baselines, and then the errors of reading the logs and the baselines, of the suppression file, of the diff, of the
-/// logs' runs and results, and of the baselines' runs and results. Its cause is any except `TooLong`, `ReadFailed` and
-/// `WriteFailed`. `OutOfMemory`, if memory runs out, and `NoWorker`, if a thread cannot be started, have no place, and
-/// may be returned instead of any of these.
+/// baselines, and then the errors of reading the logs and the baselines, of the suppression file, of the policy, of the
+/// diff, of the logs' runs and results, and of the baselines' runs and results. Its cause is any except `TooLong`,
+/// `ReadFailed` and `WriteFailed`. `OutOfMemory`, if memory runs out, and `NoWorker`, if a thread cannot be started,
+/// have no place, and may be returned instead of any of these.
 #[tactic(auto, using(crate::proofs::Alone::life_alone, crate::proofs::Alone::refusal_alone))]
 pub fn merge_bytes<G: Gate + Sync, R: Threads + Wait + Sync>(
     rt: &R,

@@ -51,7 +51,8 @@ fn read_all<R: Read>(alloc: Global, readers: &mut Readers<R>) -> Result<SourceBy
 }
 
 /// Merges logs and baselines from readers, as [`merge_bytes`](crate::merge_bytes) does with bytes: reads all
-/// sources, the logs, the baselines, the suppression file and the diff, then merges what was read, and writes nothing.
+/// sources, the logs, the baselines, the suppression file, the policy and the diff, then merges what was read, and
+/// writes nothing.
 /// If findings are requested, the result has them too, and what `tell` computes from the facts of the merge
 /// while the log's text is made. A rejection is `TooMany` for more than `MOST_SOURCES` logs, or otherwise for more than
 /// `MOST_SOURCES` baselines; otherwise `ReadFailed` or `TooLong` at the first source that cannot be read to its

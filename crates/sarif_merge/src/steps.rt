@@ -9,11 +9,13 @@ use json::Scratch;
 use json_parts::{Index, IndexFault};
 use sarif_gather::Gate;
 use sarif_inputs::{
-    Opening, Runs, index_sources, look_at_change, open_sources, read_file, read_snippets,
+    Opening, Runs, index_sources, look_at_change, look_at_policy, open_sources, read_file,
+    read_snippets,
 };
 use sarif_judge::{Team, judge_runs};
 use sarif_log::{Facts, Merged, Prepared, assemble};
 use sarif_model::MergeFault;
+use sarif_policy::GatePolicy;
 use sarif_prepare::{Asked, FileRead, prepare_by};
 use sarif_results::Judged;
 use sarif_runs::OpenedRun;
@@ -49,10 +51,11 @@ fn make_scratches(alloc: Global, count: usize) -> Result<Vec<Scratch>, AllocErro
     Ok(scratches)
 }
 
-/// The suppression file of a merge, and the change that its gate checks, if there is one.
+/// The suppression file of a merge, its policy, if there is one, and the change that its gate checks, if there is one.
 #[derive(Clone, Copy)]
 pub(crate) struct FilesRead<'f> {
     pub(crate) file: &'f Suppressions,
+    pub(crate) policy: &'f Option<GatePolicy>,
     pub(crate) change: &'f Option<GatedChange>,
 }
 
@@ -65,8 +68,9 @@ pub(crate) struct Merging<'m, 'o: 'm> {
 
 impl<'m, 'o: 'm> Merging<'m, 'o> {
     ghost use Rattle.std.specs.Prelude.{◌≡◌, ◌≤◌, ◌+◌, Ok, length, IfOk, IfErr, OnOk};
+    ghost use Rattle.sarif_inputs.specs.PolicyIn.{conditions_in};
     ghost use Rattle.sarif_log.specs.Beside.{IsMadeBy};
-    ghost use Rattle.sarif_merge.specs.Internal.Steps.{AreBaselinesJudged, AreBaselinesOpened, AreBaselinesReady, AreIndexesIn, AreLogsJudged, AreLogsOpened, AreLogsReady, AreLogsSound, IsChangeIn, IsFileIn, IsMergeOf, IsReady, IsRead, IsRejection};
+    ghost use Rattle.sarif_merge.specs.Internal.Steps.{AreBaselinesJudged, AreBaselinesOpened, AreBaselinesReady, AreIndexesIn, AreLogsJudged, AreLogsOpened, AreLogsReady, AreLogsSound, IsChangeIn, IsFileIn, IsMergeOf, IsPolicyIn, IsReady, IsRead, IsRejection};
     ghost use Rattle.sarif_model.specs.Limits.{most_sources};
 
     /// Returns a scratch for each source, in which it is indexed.
@@ -139,15 +143,17 @@ impl<'m, 'o: 'm> Merging<'m, 'o> {
         Ok(file)
     }
 
-    /// Has the results of these runs read with their snippets, if an entry of the suppression file compares snippets.
+    /// Has the results of these runs read with their snippets, if a filter of the policy or an entry of the suppression
+    /// file compares snippets.
     pub(crate) fn read_snippets<'t, 'a>(
         &self,
         runs: Runs<'t, 'a>,
-        file: &Suppressions,
+        files: &FilesRead<'_>,
     ) -> Runs<'t, 'a>
         requires logs { AreLogsOpened self.now runs.current.items }
         requires baselines { AreBaselinesOpened self.now runs.baseline.items }
-        requires file { IsFileIn self.now file.now }
+        requires file { IsFileIn self.now files.now.file.now }
+        requires policy { IsPolicyIn self.now (conditions_in files.now.policy.now) }
         ensures logs { AreLogsReady self.now result.current.items }
         ensures baselines { AreBaselinesReady self.now result.baseline.items }
     {
@@ -155,18 +161,34 @@ impl<'m, 'o: 'm> Merging<'m, 'o> {
             mut current,
             mut baseline,
         } = runs;
-        read_snippets(file, &mut current);
-        read_snippets(file, &mut baseline);
+        read_snippets(files.policy, files.file, &mut current);
+        read_snippets(files.policy, files.file, &mut baseline);
         Runs { current, baseline }
+    }
+
+    /// Reads the policy, if there is one. A condition on the change needs a diff.
+    pub(crate) fn read_policy(
+        &self,
+        alloc: Global,
+        file: &Suppressions,
+    ) -> Result<Option<GatePolicy>, MergeFault>
+        requires { IsFileIn self.now file.now }
+        ensures policy { IfOk result (λ policy. IsPolicyIn self.now (conditions_in policy)) }
+        ensures refused { IfErr result (IsRejection self.now) }
+    {
+        let bytes = slice_of(&self.sources.policy);
+        let has_diff = self.sources.diff.is_some();
+        let policy = look_at_policy(alloc, bytes, has_diff)?;
+        Ok(policy)
     }
 
     /// Reads the diff, if there is one.
     pub(crate) fn read_diff(
         &self,
         alloc: Global,
-        file: &Suppressions,
+        policy: &Option<GatePolicy>,
     ) -> Result<Option<GatedChange>, MergeFault>
-        requires { IsFileIn self.now file.now }
+        requires { IsPolicyIn self.now (conditions_in policy.now) }
         ensures change { IfOk result (IsChangeIn self.now) }
         ensures refused { IfErr result (IsRejection self.now) }
     {

@@ -1,8 +1,8 @@
 //! The errors of an input.
 use thiserror::Error;
 
-/// The first thing that is wrong with a log, a run, a result, the suppression file, the diff or the choice of hits. A
-/// member of a log may be absent or null where it isn't said that it must be there.
+/// The first thing that is wrong with a log, a run, a result, the suppression file, the policy, the diff or the choice
+/// of hits. A member of a log may be absent or null where it isn't said that it must be there.
 #[derive(Clone, Copy, Debug, PartialEq, Eq, Error)]
 pub enum Fault {
     /// The bytes are not UTF-8, not JSON, or nested deeper than `MAX_DEPTH` of `json_parts`.
@@ -104,4 +104,27 @@ pub enum Fault {
     /// A line of a diff with a new commit of a submodule, whose changed files it doesn't name.
     #[error("Submodule")]
     Submodule = 27,
+    /// The policy is not an object, has a member that its version doesn't know, or its `conditions` are not an array.
+    #[error("NotPolicy")]
+    NotPolicy = 28,
+    /// A policy without a condition: such a gate would always pass.
+    #[error("NoCondition")]
+    NoCondition = 29,
+    /// A condition of the policy that is not an object, has a member that its version doesn't know, or one of the wrong
+    /// type or value, or members that don't go together.
+    #[error("BadCondition")]
+    BadCondition = 30,
+    /// A filter of a condition that is not an object, has a member that its version doesn't know, or one of the wrong
+    /// type.
+    #[error("BadFilter")]
+    BadFilter = 31,
+    /// A filter of a condition that names nothing that a result must have.
+    #[error("EmptyFilter")]
+    EmptyFilter = 32,
+    /// A condition of the policy with the name of an earlier one.
+    #[error("SameName")]
+    SameName = 33,
+    /// A condition of the policy on the change, if there is no diff.
+    #[error("NeedsDiff")]
+    NeedsDiff = 34,
 }

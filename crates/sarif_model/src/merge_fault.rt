@@ -16,6 +16,8 @@ pub enum Source {
     Baseline(u32),
     /// The suppression file.
     Suppress,
+    /// The policy: the conditions of the gate.
+    Policy,
     /// The diff of the change that the gate checks.
     Diff,
     /// The merged log.
@@ -37,6 +39,12 @@ pub enum At {
     Single(Source, u32, u32),
     /// An entry of the suppression file, from 0.
     Entry(u32),
+    /// A condition of the policy, from 0.
+    Condition(u32),
+    /// A filter of `only` of a condition of the policy: the number of the condition, and its own, each from 0.
+    Only(u32, u32),
+    /// A filter of `except` of a condition of the policy: the number of the condition, and its own, each from 0.
+    Except(u32, u32),
     /// A line of the diff, from 1.
     Line(usize),
     /// A place of the hits to accept, by its number among these places, from 0.
@@ -145,6 +153,7 @@ impl fmt::Display for Source {
             Source::Log(number) => write!(f, "log {number}"),
             Source::Baseline(number) => write!(f, "baseline {number}"),
             Source::Suppress => f.write_str("suppressions"),
+            Source::Policy => f.write_str("policy"),
             Source::Diff => f.write_str("diff"),
             Source::Output => f.write_str("output"),
             Source::Known => f.write_str("known log"),
@@ -165,6 +174,11 @@ impl fmt::Display for At {
             At::Run(source, run) => write!(f, "{source}, run {run}"),
             At::Single(source, run, number) => write!(f, "{source}, run {run}, result {number}"),
             At::Entry(entry) => write!(f, "suppressions, entry {entry}"),
+            At::Condition(number) => write!(f, "policy, condition {number}"),
+            At::Only(number, filter) => { write!(f, "policy, condition {number}, only {filter}") }
+            At::Except(number, filter) => {
+                write!(f, "policy, condition {number}, except {filter}")
+            }
             At::Line(number) => write!(f, "diff, line {number}"),
             At::Place(number) => write!(f, "--at {number}"),
             At::Rule(number) => write!(f, "--rule {number}"),

@@ -2,3 +2,4 @@ pub mod BareArtifacts
 pub mod ChangeShared
 pub mod ListedAsked
 pub mod ResultsShared
+pub mod RunsLooked

@@ -16,12 +16,12 @@ use Rattle.sarif_outside.specs.declared.asked.LookedRun.{LookedRun}
 pub asked_next : (change : GatedChange) (runs : List LookedRun) (spots : List Spot) (asked : List Bool) (n : ℕ)
     → (run : LookedRun) (none : Spot) (old new whole : List Bool)
     → n < length spots → n < length asked → (get_or spots n none).run < length runs
-    → run ≡ get_or runs (get_or spots n none).run run
+    → run ≡ get_or runs (get_or spots n none).run run → run.change.now ≡ change
     → new ≡ old
-    ++ (get_or asked n false && is_outside_of change (placed_looked run).run (result_at (placed_looked run).run (get_or spots n none).seq)) ∷ []
+    ++ (get_or asked n false && is_outside_of run.change.now (placed_looked run).run (result_at (placed_looked run).run (get_or spots n none).seq)) ∷ []
     → old ++ both (drop n asked) (map (is_outside_at change (map placed_looked runs)) (drop n spots)) ≡ whole
     → new ++ both (drop (n + 1) asked) (map (is_outside_at change (map placed_looked runs)) (drop (n + 1) spots)) ≡ whole
-asked_next change runs spots asked n run none old new whole in_spots in_asked in_runs run_is pushed held =
+asked_next change runs spots asked n run none old new whole in_spots in_asked in_runs run_is looked pushed held =
     let ps = map placed_looked runs in
     let spot = get_or spots n none in
     let rest = both (drop (n + 1) asked) (map (is_outside_at change ps) (drop (n + 1) spots)) in
@@ -31,7 +31,10 @@ asked_next change runs spots asked n run none old new whole in_spots in_asked in
     ap (λ l. both (drop n asked) (map (is_outside_at change ps) l)) (drop_more spots n none in_spots)
     ∙ ap (λ l. both l (map (is_outside_at change ps) (spot ∷ drop (n + 1) spots))) (drop_more asked n false in_asked)
     ∙ ap (λ p. one p ∷ rest) placed in
-    ap (λ t. t ++ rest) pushed
+    let one_more : new ≡ old ++ one (placed_looked run) ∷ [] =
+    pushed
+    ∙ ap (λ (c : GatedChange). old ++ (get_or asked n false && is_outside_of c (placed_looked run).run (result_at (placed_looked run).run spot.seq)) ∷ []) looked in
+    ap (λ t. t ++ rest) one_more
     ∙ append_assoc old (one (placed_looked run) ∷ []) rest
     ∙ ap (λ t. old ++ t) (sym opened)
     ∙ held

@@ -8,11 +8,11 @@ ghost use Rattle.sarif_runs.specs.Internal.Spots.{spots_from, IsSpotOf};
 ghost use Rattle.sarif_scope.specs.Inside as inside;
 ghost use Rattle.sarif_scope.specs.declared.gated.GatedChange.{GatedChange as AnyChange};
 ghost use Rattle.sarif_outside.specs.Marks as said;
-ghost use Rattle.sarif_outside.specs.Internal.Asked.{mark_by, placed_looked};
+ghost use Rattle.sarif_outside.specs.Internal.Asked.{AreLookedFor, looked_as, mark_by, placed_looked};
 
 use crate::asked::{AskedResult, LookedRun};
 use sarif_runs::{OpenedRun, Spot, list_spots};
-use sarif_scope::{GatedChange, artifacts_in, is_outside_of};
+use sarif_scope::{GatedChange, artifacts_in};
 use sarif_share::{Sharing, each_of, share_jobs};
 use std::alloc::{AllocError, Global};
 use std::thread::Threads;
@@ -20,19 +20,53 @@ use std::thread::Threads;
 /// For fewer results it is not worth starting another thread.
 const LEAST_SHARED: usize = 32;
 
-/// Each of these runs, with the places of its artifacts.
+/// A run, with what a change says about its artifacts.
 #[tactic(auto, using(crate::proofs::BareArtifacts::bare_artifacts))]
-fn look_at_runs<'w, 't, 'a>(
+fn look_at_run<'w, 't, 'a>(
     alloc: Global,
+    change: &'w GatedChange,
+    opened: &'w OpenedRun<'t, 'a>,
+) -> Result<LookedRun<'w, 't, 'a>, AllocError>
+    ensures { IfOk result (λ run. looked_as run ≡ (change.now, placed_of opened.now)) }
+{
+    let artifacts = artifacts_in(alloc, opened.bare())?;
+    let roots = change.roots.as_slice();
+    let known = change
+        .changed
+        .know_artifacts(alloc, roots, change.scope, artifacts)?;
+    Ok(LookedRun {
+        opened,
+        change,
+        known,
+    })
+}
+
+/// Each of these runs, with what a change says about its artifacts.
+fn look_at_each<'w, 't, 'a>(
+    alloc: Global,
+    change: &'w GatedChange,
     runs: &'w [OpenedRun<'t, 'a>],
 ) -> Result<Vec<LookedRun<'w, 't, 'a>>, AllocError>
-    ensures { IfOk result (λ made. map placed_looked made.items ≡ map placed_of runs.now) }
+    ensures { IfOk result (λ made. map looked_as made.items
+        ≡ map (λ run. (change.now, placed_of run)) runs.now) }
 {
     let mut made = Vec::with_capacity(alloc, runs.len())?;
     for opened in runs {
-        let artifacts = artifacts_in(alloc, opened.bare())?;
-        made.push(LookedRun { opened, artifacts })?;
+        made.push(look_at_run(alloc, change, opened)?)?;
     }
+    Ok(made)
+}
+
+/// Each of these runs, with what a change says about its artifacts.
+fn look_at_runs<'w, 't, 'a>(
+    alloc: Global,
+    change: &'w GatedChange,
+    runs: &'w [OpenedRun<'t, 'a>],
+) -> Result<Vec<LookedRun<'w, 't, 'a>>, AllocError>
+    ensures placed { IfOk result (λ made. map placed_looked made.items ≡ map placed_of runs.now) }
+    ensures looked { IfOk result (λ made. AreLookedFor change.now made.items) }
+{
+    let made = look_at_each(alloc, change, runs)?;
     Ok(made)
 }
 
@@ -44,9 +78,8 @@ fn push_asked<'l, 'w, 't, 'a>(
     is_asked: bool,
 ) -> Result<(), AllocError>
     requires { seq < length (results_of (placed_looked run.now).run) }
-    ensures { OnOk result ((change : AnyChange) → map (mark_by change) list.new.items
-        ≡ map (mark_by change) list.old.items
-        ++ (is_asked && inside.is_outside_of change (placed_looked run.now).run
+    ensures { OnOk result (map mark_by list.new.items ≡ map mark_by list.old.items
+        ++ (is_asked && inside.is_outside_of run.now.change.now (placed_looked run.now).run
         (result_at (placed_looked run.now).run seq)) ∷ []) }
 {
     if is_asked {
@@ -66,8 +99,8 @@ fn list_asked<'l, 'w, 't, 'a>(
 ) -> Result<Vec<Option<AskedResult<'l, 'w, 't, 'a>>>, AllocError>
     requires within { All (IsSpotOf (map placed_looked runs.now)) spots.now }
     requires each { length asked.now ≡ length spots.now }
-    ensures { IfOk result (λ list. (change : AnyChange) → map (mark_by change) list.items
-        ≡ said.both asked.now
+    ensures { IfOk result (λ list. (change : AnyChange) → AreLookedFor change runs.now
+        → map mark_by list.items ≡ said.both asked.now
         (map (said.is_outside_at change (map placed_looked runs.now)) spots.now)) }
 {
     let mut list = Vec::with_capacity(alloc, spots.len())?;
@@ -79,32 +112,23 @@ fn list_asked<'l, 'w, 't, 'a>(
 }
 
 /// Whether a result of a run is outside by its places.
-fn is_outside_in(
-    alloc: Global,
-    change: &GatedChange,
-    run: &LookedRun<'_, '_, '_>,
-    seq: u32,
-) -> Result<bool, AllocError>
+fn is_outside_in(alloc: Global, run: &LookedRun<'_, '_, '_>, seq: u32) -> Result<bool, AllocError>
     requires { seq < length (results_of (placed_looked run.now).run) }
     ensures { IfOk result (λ outside. outside
-        ≡ inside.is_outside_of change.now (placed_looked run.now).run
+        ≡ inside.is_outside_of run.now.change.now (placed_looked run.now).run
         (result_at (placed_looked run.now).run seq)) }
 {
     let found = run.opened.result(alloc, seq)?;
-    let outside = is_outside_of(alloc, change, run.artifacts.as_slice(), &found)?;
+    let outside = run.known.is_outside(alloc, &found)?;
     Ok(outside)
 }
 
 /// Whether a result is requested, and outside by its places.
-fn mark(
-    alloc: Global,
-    change: &GatedChange,
-    asked: &Option<AskedResult<'_, '_, '_, '_>>,
-) -> Result<bool, AllocError>
-    ensures { IfOk result (λ mark. mark ≡ mark_by change.now asked.now) }
+fn mark(alloc: Global, asked: &Option<AskedResult<'_, '_, '_, '_>>) -> Result<bool, AllocError>
+    ensures { IfOk result (λ mark. mark ≡ mark_by asked.now) }
 {
     match asked {
-        Some(asked) => is_outside_in(alloc, change, asked.run, asked.seq),
+        Some(asked) => is_outside_in(alloc, asked.run, asked.seq),
         None => Ok(false),
     }
 }
@@ -113,11 +137,10 @@ fn mark(
 fn mark_all<'s, 'l, 'w, 't, 'a, R: Threads + Sync>(
     rt: &R,
     alloc: Global,
-    change: &GatedChange,
     asked: &'s [Option<AskedResult<'l, 'w, 't, 'a>>],
     threads: u32,
 ) -> Result<Vec<bool>, AllocError>
-    ensures { IfOk result (λ marks. marks.items ≡ map (mark_by change.now) asked.now) }
+    ensures { IfOk result (λ marks. marks.items ≡ map mark_by asked.now) }
 {
     let sharing = Sharing {
         rt,
@@ -126,8 +149,8 @@ fn mark_all<'s, 'l, 'w, 't, 'a, R: Threads + Sync>(
         least: LEAST_SHARED,
     };
     let one = move |found|
-        ensures { IfOk result (λ mark. mark ≡ mark_by change.entry.now found.now) }
-    { mark(alloc, change, found) };
+        ensures { IfOk result (λ mark. mark ≡ mark_by found.now) }
+    { mark(alloc, found) };
     let each = each_of(alloc, asked)?;
     let marks = share_jobs(&sharing, each, &one)?;
     Ok(marks)
@@ -149,8 +172,8 @@ pub fn mark_outside<R: Threads + Sync>(
         ≡ said.outside_marks change.now (map placed_of runs.now) asked.now) }
 {
     let spots = list_spots(alloc, runs)?;
-    let looked = look_at_runs(alloc, runs)?;
+    let looked = look_at_runs(alloc, change, runs)?;
     let list = list_asked(alloc, &looked, &spots, asked)?;
-    let marks = mark_all(rt, alloc, change, &list, threads)?;
+    let marks = mark_all(rt, alloc, &list, threads)?;
     Ok(marks)
 }

@@ -70,7 +70,7 @@ more_one (o ∷ os) (w ∷ ws) none more = elim (rose_or_same (failed_calls o) (
 
 reader_less : {R : Type 0} (old new : Readers R) → NoNumberFalls old new → failures old ≤ failures new
 reader_less old new none =
-    omega (arith, none_less old.logs.items new.logs.items none.logs, none_less old.baselines.items new.baselines.items none.baselines, none.suppressions, none.diff)
+    omega (arith, none_less old.logs.items new.logs.items none.logs, none_less old.baselines.items new.baselines.items none.baselines, none.suppressions, none.policy, none.diff)
 
 writer_less : {W S P : Type 0} (old new : Writers W S P) → NoWriterFalls old new → writer_failures old ≤ writer_failures new
 writer_less old new none =
@@ -86,7 +86,7 @@ writer_less old new none =
 
 reader_more : {R : Type 0} (old new : Readers R) → NoNumberFalls old new → ReaderRises old new → failures old < failures new
 reader_more old new none (inl log) =
-    omega (arith, one_more old.logs.items new.logs.items none.logs log, none_less old.baselines.items new.baselines.items none.baselines, none.suppressions, none.diff)
+    omega (arith, one_more old.logs.items new.logs.items none.logs log, none_less old.baselines.items new.baselines.items none.baselines, none.suppressions, none.policy, none.diff)
 reader_more old new none (inr (inl baseline)) =
     omega (
       arith,
@@ -94,12 +94,15 @@ reader_more old new none (inr (inl baseline)) =
       one_more old.baselines.items new.baselines.items none.baselines
           baseline,
       none.suppressions,
+      none.policy,
       none.diff,
     )
 reader_more old new none (inr (inr (inl file))) =
-    omega (arith, none_less old.logs.items new.logs.items none.logs, none_less old.baselines.items new.baselines.items none.baselines, file, none.diff)
-reader_more old new none (inr (inr (inr diff))) =
-    omega (arith, none_less old.logs.items new.logs.items none.logs, none_less old.baselines.items new.baselines.items none.baselines, none.suppressions, diff)
+    omega (arith, none_less old.logs.items new.logs.items none.logs, none_less old.baselines.items new.baselines.items none.baselines, file, none.policy, none.diff)
+reader_more old new none (inr (inr (inr (inl policy)))) =
+    omega (arith, none_less old.logs.items new.logs.items none.logs, none_less old.baselines.items new.baselines.items none.baselines, none.suppressions, policy, none.diff)
+reader_more old new none (inr (inr (inr (inr diff)))) =
+    omega (arith, none_less old.logs.items new.logs.items none.logs, none_less old.baselines.items new.baselines.items none.baselines, none.suppressions, none.policy, diff)
 
 writer_more : {W S P : Type 0} (old new : Writers W S P) → NoWriterFalls old new → WriterRises old new → writer_failures old < writer_failures new
 writer_more old new none (inl out) =
@@ -147,7 +150,10 @@ more_reader old new none more =
         | inl baseline ↦ inl (more_one old.baselines.items new.baselines.items none.baselines baseline)
         | inr too ↦ inr (elim (rose_or_same (failed_calls_if old.suppressions) (failed_calls_if new.suppressions) none.suppressions) [
           | inl file ↦ inl file
-          | inr third ↦ inr (omega (arith, more, same, too, third))
+          | inr third ↦ inr (elim (rose_or_same (failed_calls_if old.policy) (failed_calls_if new.policy) none.policy) [
+            | inl policy ↦ inl policy
+            | inr fourth ↦ inr (omega (arith, more, same, too, third, fourth))
+          ])
         ])
       ])
     ]

@@ -4,7 +4,7 @@ use Rattle.std.specs.Io.KnownBytes.{Appends}
 use Rattle.sarif_model.specs.declared.fault.Fault.{Fault}
 use Rattle.sarif_model.specs.declared.fault.Fault.TheVariants as fault
 use Rattle.sarif_model.specs.declared.merge_fault.At.{At}
-use Rattle.sarif_model.specs.declared.merge_fault.At.TheVariants.{Nowhere, Whole, Run, Single, Entry, Line, Place, Rule}
+use Rattle.sarif_model.specs.declared.merge_fault.At.TheVariants.{Nowhere, Whole, Run, Single, Entry, Condition, Only, Except, Line, Place, Rule}
 use Rattle.sarif_model.specs.declared.merge_fault.Cause.{Cause}
 use Rattle.sarif_model.specs.declared.merge_fault.Cause.TheVariants as cause
 use Rattle.sarif_model.specs.FaultText.{at_text}
@@ -44,6 +44,13 @@ fault_name fault.Combined = codes "Combined"
 fault_name fault.BadHunk = codes "BadHunk"
 fault_name fault.BadHeader = codes "BadHeader"
 fault_name fault.Submodule = codes "Submodule"
+fault_name fault.NotPolicy = codes "NotPolicy"
+fault_name fault.NoCondition = codes "NoCondition"
+fault_name fault.BadCondition = codes "BadCondition"
+fault_name fault.BadFilter = codes "BadFilter"
+fault_name fault.EmptyFilter = codes "EmptyFilter"
+fault_name fault.SameName = codes "SameName"
+fault_name fault.NeedsDiff = codes "NeedsDiff"
 
 -- the name of a cause
 abbrev pub cause_name : Cause → List ℕ
@@ -62,6 +69,9 @@ placed (Run source run) name = at_text (Run source run) ++ (codes ": " ++ name)
 placed (Single source run result) name =
     at_text (Single source run result) ++ (codes ": " ++ name)
 placed (Entry entry) name = at_text (Entry entry) ++ (codes ": " ++ name)
+placed (Condition number) name = at_text (Condition number) ++ (codes ": " ++ name)
+placed (Only number filter) name = at_text (Only number filter) ++ (codes ": " ++ name)
+placed (Except number filter) name = at_text (Except number filter) ++ (codes ": " ++ name)
 placed (Line number) name = at_text (Line number) ++ (codes ": " ++ name)
 placed (Place number) name = at_text (Place number) ++ (codes ": " ++ name)
 placed (Rule number) name = at_text (Rule number) ++ (codes ": " ++ name)

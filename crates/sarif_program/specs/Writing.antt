@@ -43,7 +43,8 @@ ReaderRises old new =
     OneRises old.logs.items new.logs.items
     ⊎ (OneRises old.baselines.items new.baselines.items
     ⊎ ((failed_calls_if old.suppressions < failed_calls_if new.suppressions)
-    ⊎ (failed_calls_if old.diff < failed_calls_if new.diff)))
+    ⊎ ((failed_calls_if old.policy < failed_calls_if new.policy)
+    ⊎ (failed_calls_if old.diff < failed_calls_if new.diff))))
 
 -- a writer has more: `out`, a report's writer, or `say`
 abbrev pub WriterRises : {W S P : Type 0} → Writers W S P → Writers W S P → Type 0

@@ -50,5 +50,12 @@ fn fault_name(fault: Fault) -> &'static str
         Fault::BadHunk => "BadHunk",
         Fault::BadHeader => "BadHeader",
         Fault::Submodule => "Submodule",
+        Fault::NotPolicy => "NotPolicy",
+        Fault::NoCondition => "NoCondition",
+        Fault::BadCondition => "BadCondition",
+        Fault::BadFilter => "BadFilter",
+        Fault::EmptyFilter => "EmptyFilter",
+        Fault::SameName => "SameName",
+        Fault::NeedsDiff => "NeedsDiff",
     }
 }

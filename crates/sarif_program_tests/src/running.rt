@@ -89,6 +89,7 @@ fn run_by<T: Threads + Wait + Sync + AllocGlobal>(
         logs: vec![in alloc; Counted::new(log)]?,
         baselines: Vec::new(alloc),
         suppressions: None,
+        policy: None,
         diff: None,
     };
     let setting = Setting {
@@ -133,6 +134,7 @@ fn run_all_by<T: Threads + Wait + Sync + AllocGlobal>(
         logs: vec![in alloc; Counted::new(log)]?,
         baselines: vec![in alloc; Counted::new(baseline)]?,
         suppressions: Some(Counted::new(suppressions)),
+        policy: None,
         diff: None,
     };
     let setting = Setting {
@@ -167,6 +169,7 @@ fn run_change_by<T: Threads + Wait + Sync + AllocGlobal>(
         logs: vec![in alloc; Counted::new(GivenBytes::whole(log))]?,
         baselines: Vec::new(alloc),
         suppressions: Some(Counted::new(GivenBytes::whole(suppressions))),
+        policy: None,
         diff: Some(Counted::new(diff)),
     };
     let setting = Setting {

@@ -120,6 +120,7 @@ fn run<T: Threads + Wait + Sync + AllocGlobal>(
         logs: vec![in alloc; Counted::new(GivenBytes::whole(log))]?,
         baselines: Vec::new(alloc),
         suppressions: None,
+        policy: None,
         diff: None,
     };
     let later = RefCell::new(Vec::new(alloc));

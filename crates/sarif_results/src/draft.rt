@@ -1,6 +1,6 @@
 //! A written result without its baseline state.
-ghost use Rattle.std.specs.Prelude.{◌≡◌, IfOk, false, codes};
-ghost use Rattle.serde_json.specs.Data.{string};
+ghost use Rattle.std.specs.Prelude.{◌≡◌, IfOk, false, codes, string_bytes};
+ghost use Rattle.serde_json.specs.Data.{array, string};
 ghost use Rattle.serde_json.specs.Find.{get};
 ghost use Rattle.serde_json.specs.View.{view, items_view, members_view};
 ghost use Rattle.serde_json.specs.Written.{compact_text, has_float, items_have_float, members_have_float};
@@ -60,6 +60,19 @@ fn level_text(level: Level) -> &'static str
     }
 }
 
+/// The JSON of suppressions. Most results have none.
+fn list_text(alloc: Global, list: Vec<Value>) -> Result<String, AllocError>
+    requires list { items_have_float (items_view list.items) ≡ false }
+    ensures { IfOk result
+        (λ text. string_bytes text ≡ compact_text (array (items_view list.items))) }
+{
+    if list.as_slice().is_empty() {
+        let none = String::from_str(alloc, "[]")?;
+        return Ok(none);
+    }
+    Value::Array(list).to_string(alloc)
+}
+
 /// The text of a result with that level and these suppressions, written from its tokens.
 fn text_from(
     alloc: Global,
@@ -72,7 +85,7 @@ fn text_from(
         (drafted_members level (items_view list.items)
         (members_in (stripped (data_of node.now))))) }
 {
-    let listed = Value::Array(list).to_string(alloc)?;
+    let listed = list_text(alloc, list)?;
     let set = [
         SetMember {
             name: "suppressions",
@@ -129,7 +142,7 @@ pub fn draft_current(
     ensures { IfOk result (λ draft. draft ≡ draft_by (λ r own. suppressions_of own file.now r)
         (applied_of file.now) «record».now (members_in (stripped (data_of node.now)))) }
 {
-    let own = own_of(alloc, found)?;
+    let own = own_of(alloc, found);
     let applied = file.apply(alloc, record)?;
     let list = file.write_suppressions(alloc, own, &applied)?;
     object_holds_no_fraction();
@@ -153,7 +166,7 @@ pub fn draft_absent(
     ensures { IfOk result (λ draft. draft ≡ draft_by (λ _ own. own) unapplied
         «record».now (members_in (stripped (data_of node.now)))) }
 {
-    let own = own_of(alloc, found)?;
+    let own = own_of(alloc, found);
     let applied = Applied {
         entries: Sequence::new(alloc),
         suppressed: false,

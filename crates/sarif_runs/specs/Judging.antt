@@ -14,7 +14,7 @@ use Rattle.sarif_runs.specs.declared.head.RunHead.{RunHead}
 use Rattle.sarif_runs.specs.declared.item.Item.{Item}
 use Rattle.sarif_runs.specs.declared.item.Item.TheVariants.{Sound, Bad, Skipped}
 use Rattle.sarif_model.specs.declared.merge_fault.Source.{Source}
-use Rattle.sarif_model.specs.declared.merge_fault.Source.TheVariants.{Log, Baseline, Suppress, Diff, Output, Known}
+use Rattle.sarif_model.specs.declared.merge_fault.Source.TheVariants.{Log, Baseline, Suppress, Policy, Diff, Output, Known}
 use Rattle.sarif_model.specs.declared.merge_fault.At.{At}
 use Rattle.sarif_model.specs.declared.merge_fault.At.TheVariants.{Run, Single}
 use Rattle.sarif_model.specs.declared.merge_fault.MergeFault.{MergeFault}
@@ -26,6 +26,7 @@ abbrev pub skips : Source → Bool
 skips (Log k) = false
 skips (Baseline k) = true
 skips Suppress = false
+skips Policy = false
 skips Diff = false
 skips Output = false
 skips Known = false

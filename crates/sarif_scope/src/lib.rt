@@ -20,5 +20,5 @@ pub use laws::{
     nothing_changes_without_a_change,
 };
 pub use outside::{artifacts_in, is_outside_of};
-pub use summary::summary_of_change;
+pub use summary::{counts_table, summary_of_change};
 pub use told::{gate_value_told, hits_told, outside_told, summary_told, verdict_told};

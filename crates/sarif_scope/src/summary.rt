@@ -39,10 +39,12 @@ fn before_end<'t>(text: &'t str, end: &str) -> &'t str
     }
 }
 
-/// The table of the counts, without the line on the gate.
-fn table(alloc: Global, counts: &Counts, policy: &Policy) -> Result<String, AllocError>
+/// Returns the table of the counts, without the line on the gate: a heading, and a line for each of the states new,
+/// unchanged, updated and absent. Returns `AllocError` if memory for it runs out.
+pub fn counts_table(alloc: Global, counts: &Counts) -> Result<String, AllocError>
     ensures { IfOk result (λ s. string_bytes s ≡ said.table_of (count_at counts.now)) }
 {
+    let policy = &Policy::default();
     let whole = summary(alloc, counts, policy)?;
     let verdict = verdict(counts, policy);
     let gate = gate_row(alloc, verdict, hits(counts, policy), policy.max)?;
@@ -62,7 +64,7 @@ pub fn summary_of_change(
     ensures { IfOk result (λ s. string_bytes s ≡ said.summary_of_change (count_at counts.now)
         (hits_of (count_at counts.now) policy.now - facts.now.outside) facts.now policy.now) }
 {
-    let mut text = table(alloc, counts, policy)?;
+    let mut text = counts_table(alloc, counts)?;
     text.push_str(diff_row(alloc, facts)?.as_str())?;
     let found = hits_inside(counts, policy, facts.outside);
     let verdict = verdict_inside(counts, policy, facts.outside);

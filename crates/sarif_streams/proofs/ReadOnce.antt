@@ -50,8 +50,10 @@ module _ {R : Type 0} (remaining : R → Option (List ℕ)) where
       let logs = readers_once old.logs.items new.logs.items one.logs other.logs tells.logs h.logs k.logs in
       let baselines = readers_once old.baselines.items new.baselines.items one.baselines other.baselines tells.baselines h.baselines k.baselines in
       let file = file_once old.suppressions new.suppressions one.suppressions other.suppressions tells.suppressions h.suppressions k.suppressions in
+      let policy = file_once old.policy new.policy one.policy other.policy tells.policy h.policy k.policy in
       let diff = file_once old.diff new.diff one.diff other.diff tells.diff h.diff k.diff in
-      ap (λ x. record { logs = x; baselines = one.baselines; suppressions = one.suppressions; diff = one.diff }) logs
-      ∙ (ap (λ x. record { logs = other.logs; baselines = x; suppressions = one.suppressions; diff = one.diff }) baselines
-      ∙ (ap (λ x. record { logs = other.logs; baselines = other.baselines; suppressions = x; diff = one.diff }) file
-      ∙ ap (λ x. record { logs = other.logs; baselines = other.baselines; suppressions = other.suppressions; diff = x }) diff))
+      ap (λ x. record { logs = x; baselines = one.baselines; suppressions = one.suppressions; policy = one.policy; diff = one.diff }) logs
+      ∙ (ap (λ x. record { logs = other.logs; baselines = x; suppressions = one.suppressions; policy = one.policy; diff = one.diff }) baselines
+      ∙ (ap (λ x. record { logs = other.logs; baselines = other.baselines; suppressions = x; policy = one.policy; diff = one.diff }) file
+      ∙ (ap (λ x. record { logs = other.logs; baselines = other.baselines; suppressions = other.suppressions; policy = x; diff = one.diff }) policy
+      ∙ ap (λ x. record { logs = other.logs; baselines = other.baselines; suppressions = other.suppressions; policy = other.policy; diff = x }) diff)))

@@ -127,5 +127,6 @@ were_read_quiet remaining old new contents read =
     let logs = are_read_quiet remaining old.logs.items new.logs.items contents.logs read.logs in
     let baselines = are_read_quiet remaining old.baselines.items new.baselines.items contents.baselines read.baselines in
     let file = is_read_quiet remaining old.suppressions new.suppressions contents.suppressions read.suppressions in
+    let policy = is_read_quiet remaining old.policy new.policy contents.policy read.policy in
     let diff = is_read_quiet remaining old.diff new.diff contents.diff read.diff in
-    omega (arith, logs, baselines, file, diff)
+    omega (arith, logs, baselines, file, policy, diff)

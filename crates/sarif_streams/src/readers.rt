@@ -4,7 +4,8 @@ use crate::source::SourceFault;
 use sarif_model::Source;
 use std::fmt;
 
-/// The inputs of a merge: the logs, the baselines, and the suppression file and the diff, if there are any.
+/// The inputs of a merge: the logs, the baselines, and the suppression file, the policy and the diff, if there are
+/// any.
 #[derive(Debug, Drop)]
 pub struct Readers<R> {
     /// A reader for each log, in order.
@@ -13,6 +14,8 @@ pub struct Readers<R> {
     pub baselines: Vec<Counted<R>>,
     /// The reader of the suppression file, if there is one.
     pub suppressions: Option<Counted<R>>,
+    /// The reader of the policy, if there is one.
+    pub policy: Option<Counted<R>>,
     /// The reader of the diff, if there is one.
     pub diff: Option<Counted<R>>,
 }
@@ -26,6 +29,8 @@ pub struct SourceBytes {
     pub baselines: Vec<Vec<u8>>,
     /// The bytes of the suppression file, if there is one.
     pub suppressions: Option<Vec<u8>>,
+    /// The bytes of the policy, if there is one.
+    pub policy: Option<Vec<u8>>,
     /// The bytes of the diff, if there is one.
     pub diff: Option<Vec<u8>>,
 }

@@ -85,10 +85,10 @@ fn read_optional<R: Read>(
     }
 }
 
-/// Reads all sources to their ends, in this order: the logs, the baselines, the suppression file, the diff. The first
-/// source that cannot be read ends it: `ReadFailed` if a read failed, `TooLong` if it has more than `MOST_BYTES`
-/// bytes, each with the source; `OutOfMemory` if memory runs out. The sources before it were read, and the sources
-/// after it are untouched.
+/// Reads all sources to their ends, in this order: the logs, the baselines, the suppression file, the policy, the diff.
+/// The first source that cannot be read ends it: `ReadFailed` if a read failed, `TooLong` if it has more than
+/// `MOST_BYTES` bytes, each with the source; `OutOfMemory` if memory runs out. The sources before it were read, and
+/// the sources after it are untouched.
 pub fn read_sources<R: Read>(
     alloc: Global,
     readers: &mut Readers<R>,
@@ -112,11 +112,13 @@ pub fn read_sources<R: Read>(
         readers.baselines.as_mut_slice(),
     )?;
     let suppressions = read_optional(alloc, Source::Suppress, &mut readers.suppressions)?;
+    let policy = read_optional(alloc, Source::Policy, &mut readers.policy)?;
     let diff = read_optional(alloc, Source::Diff, &mut readers.diff)?;
     Ok(SourceBytes {
         logs,
         baselines,
         suppressions,
+        policy,
         diff,
     })
 }

@@ -14,7 +14,7 @@ use std::test::Fail;
 /// The inputs of a merge.
 #[derive(Drop)]
 pub struct Given {
-    /// The logs, the baselines, the suppression file and the diff.
+    /// The logs, the baselines, the suppression file, the policy and the diff.
     pub sources: SourceBytes,
     /// What the gate fails on.
     pub policy: Policy,
@@ -36,6 +36,7 @@ impl Given {
                 logs: Vec::new(alloc),
                 baselines: Vec::new(alloc),
                 suppressions: None,
+                policy: None,
                 diff: None,
             },
             policy: Policy::default(),

@@ -65,6 +65,7 @@ pub fn readers_of<'t>(alloc: Global, texts: Texts<'t>) -> Result<Readers<&'t [u8
         } else {
             Some(Counted::new(file))
         },
+        policy: None,
         diff: None,
     })
 }

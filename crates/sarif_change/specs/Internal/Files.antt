@@ -1,5 +1,6 @@
 -- The files of a change by their keys.
 use Rattle.std.specs.Prelude.{ℕ, Bool, true, ◌&&◌, ◌||◌, List, Option, Some, None}
+use Rattle.std.specs.Borrow.{Bor}
 use Rattle.std.specs.List.{list_any}
 use Rattle.sarif_diff.specs.declared.section.Span.{Span}
 use Rattle.sarif_change.specs.Meeting.{touches}
@@ -14,3 +15,7 @@ changed_at (Some lines) changed = changed.0 || list_any (touches lines) changed.
 -- whether a file may be the one that is looked for, and changes one of these lines
 abbrev pub found_at : List ℕ → Option Span → ChangedFile → Bool
 found_at key lines file = alike file.key.items key && changed_at lines file.changed
+
+-- whether one of these changed at these lines
+abbrev pub any_changed : Option Span → List (Bor (Bool × List Span)) → Bool
+any_changed lines found = list_any (λ changed. changed_at lines changed.now) found

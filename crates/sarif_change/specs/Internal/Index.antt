@@ -31,6 +31,10 @@ HaveLinks links sections = (part : List ℕ) (lines : Option Span) → has_no_sl
 abbrev pub tree_files : Option (List ChangedFile) → List ChangedFile
 tree_files tree = unwrap_or tree []
 
+-- whether a symbolic link has this name, and changes one of these lines
+abbrev pub is_linked : Option (List ChangedFile) → Option Span → List ℕ → Bool
+is_linked tree lines part = list_any (found_at (part ++ 47 ∷ []) lines) (tree_files tree)
+
 pub record IsIndex (file_tree link_tree : Option (List ChangedFile)) (sections : List Section) : Type 0 where
   pub files : HaveFiles (tree_files file_tree) sections
   pub links : HaveLinks (tree_files link_tree) sections

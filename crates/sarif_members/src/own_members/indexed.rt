@@ -13,8 +13,9 @@ mod message;
 mod region;
 mod suppressions;
 
-use crate::node_members::{kept_text, member_at, text_of};
+use crate::node_members::{kept_text, text_of};
 use crate::parts::Parts;
+use crate::result_node::ResultNode;
 use fingerprints::read_fingerprints;
 use indexes::read_indexes;
 use json_parts::Node;
@@ -38,22 +39,21 @@ pub fn is_node_absent(found: &Node<'_, '_>) -> bool
 
 /// `AbsentInput` where the result is marked as absent (SARIF 2.1.0, result object, "baselineState
 /// property").
-fn check_is_present(found: &Node<'_, '_>) -> Result<(), Fault>
+fn check_is_present(found: &ResultNode<'_, '_, '_>) -> Result<(), Fault>
     ensures { result ≡ check_present (value_at found.now) }
 {
-    if is_node_absent(found) {
-        Err(Fault::AbsentInput)
-    } else {
-        Ok(())
+    match found.kept_text("baselineState") {
+        Some("absent") => Err(Fault::AbsentInput),
+        _ => Ok(()),
     }
 }
 
 /// The kind of a result, or `BadKind`; `fail` if it is missing (SARIF 2.1.0, result object, "kind
 /// property").
-fn read_kind(found: &Node<'_, '_>) -> Result<Kind, Fault>
+fn read_kind(found: &ResultNode<'_, '_, '_>) -> Result<Kind, Fault>
     ensures { result ≡ own_kind (value_at found.now) }
 {
-    match member_at(found, "kind") {
+    match found.member_at("kind") {
         None => Ok(Kind::Fail),
         Some(member) => text_of(&member)
             .and_then(Kind::from_name)
@@ -62,10 +62,10 @@ fn read_kind(found: &Node<'_, '_>) -> Result<Kind, Fault>
 }
 
 /// The level of a result as it is written, or `BadLevel` (SARIF 2.1.0, result object, "level property").
-fn read_level(found: &Node<'_, '_>) -> Result<Option<Level>, Fault>
+fn read_level(found: &ResultNode<'_, '_, '_>) -> Result<Option<Level>, Fault>
     ensures { result ≡ own_level (value_at found.now) }
 {
-    match member_at(found, "level") {
+    match found.member_at("level") {
         None => Ok(None),
         Some(member) => match text_of(&member).and_then(Level::from_name) {
             Some(level) => Ok(Some(level)),
@@ -76,10 +76,10 @@ fn read_level(found: &Node<'_, '_>) -> Result<Option<Level>, Fault>
 
 /// The `correlationGuid` of a result as a number, or `BadGuid` (SARIF 2.1.0, result object,
 /// "correlationGuid property").
-fn read_correlation_guid(found: &Node<'_, '_>) -> Result<Option<u128>, Fault>
+fn read_correlation_guid(found: &ResultNode<'_, '_, '_>) -> Result<Option<u128>, Fault>
     ensures { result ≡ own_guid (value_at found.now) }
 {
-    match member_at(found, "correlationGuid") {
+    match found.member_at("correlationGuid") {
         None => Ok(None),
         Some(member) => match text_of(&member).and_then(|text| read_guid(text)) {
             Some(guid) => Ok(Some(guid)),
@@ -99,6 +99,7 @@ pub fn read_node_members(
     ensures ok { IfOk result (λ parts. parts_of regions (value_at found.now) ≡ Ok parts) }
     ensures err { IfFault result (λ fault. parts_of regions (value_at found.now) ≡ Err fault) }
 {
+    let found = &ResultNode::new(found);
     check_is_present(found)?;
     let kind = read_kind(found)?;
     let level = read_level(found)?;

@@ -1,5 +1,5 @@
 -- What the steps of a merge make, and how each of them may reject it. Only a step's own proof opens what it makes.
-use Rattle.std.specs.Prelude.{◌≡◌, ◌≤◌, ◌++◌, List, [], Option, Result, Ok, false, true, length, map}
+use Rattle.std.specs.Prelude.{◌≡◌, ◌≤◌, ◌++◌, List, [], Option, Result, Ok, false, true, is_some, length, map}
 use Rattle.json.specs.Token.{Token}
 use Rattle.json_parts.specs.declared.indexing.IndexFault.{IndexFault}
 use Rattle.sarif_model.specs.Limits.{most_results, most_runs}
@@ -17,6 +17,9 @@ use Rattle.sarif_runs.specs.declared.opened.OpenedRun.{OpenedRun}
 use Rattle.sarif_diff.specs.declared.fault.DiffFault.{DiffFault}
 use Rattle.sarif_inputs.specs.ChangeIn.{change_or_none, change_read, faults_of_change}
 use Rattle.sarif_inputs.specs.Faults.{faults_of, file_faults}
+use Rattle.sarif_inputs.specs.PolicyIn.{conditions_or_none, faults_of_policy, policy_read}
+use Rattle.sarif_policy.specs.declared.condition.GateCondition.{GateCondition}
+use Rattle.sarif_policy.specs.declared.fault.PolicyFault.{PolicyFault}
 use Rattle.sarif_scope.specs.declared.gated.GatedChange.{GatedChange}
 use Rattle.sarif_entries.specs.Given.{file_or_none}
 use Rattle.sarif_inputs.specs.Internal.Indexes.{AreIndexesOf}
@@ -61,11 +64,16 @@ AreIndexesIn m indexes =
 abbrev pub change_read_in : Merging → Option (Result GatedChange DiffFault)
 change_read_in m = change_read (inputs_in m).checks (inputs_in m).diff
 
--- its sources were read: any error is one of the suppression file, of the diff or of the runs
+-- the conditions of its policy, or the first error in it, if there is a policy
+abbrev pub policy_read_in : Merging → Option (Result (List GateCondition) PolicyFault)
+policy_read_in m = policy_read (is_some (inputs_in m).diff) (inputs_in m).policy
+
+-- its sources were read: any error is one of the suppression file, of the policy, of the diff or of the runs
 unfoldable pub IsRead : Merging → Type 0
 IsRead m = faults_of (inputs_in m)
     ≡ file_faults (file_or_none (inputs_in m).suppressions (inputs_in m).today)
-    ++ (faults_of_change (change_read_in m) ++ faults_of_runs (all_runs (inputs_in m)))
+    ++ (faults_of_policy (policy_read_in m)
+    ++ (faults_of_change (change_read_in m) ++ faults_of_runs (all_runs (inputs_in m))))
 
 -- these runs, opened
 pub record AreOpened (wanted : List Placed) (runs : List OpenedRun) : Type 0 where
@@ -91,9 +99,15 @@ AreLogsReady m runs = AreOpened (input_runs (inputs_in m)) runs
 unfoldable pub AreBaselinesReady : Merging → List OpenedRun → Type 0
 AreBaselinesReady m runs = AreOpened (baseline_runs (inputs_in m)) runs
 
--- its suppression file: any error is one of the diff or of the runs
+-- its suppression file: any error is one of the policy, of the diff or of the runs
 unfoldable pub IsFileIn : Merging → File → Type 0
 IsFileIn m file = (file_or_none (inputs_in m).suppressions (inputs_in m).today ≡ Ok file)
+    × (faults_of (inputs_in m) ≡ faults_of_policy (policy_read_in m)
+    ++ (faults_of_change (change_read_in m) ++ faults_of_runs (all_runs (inputs_in m))))
+
+-- the conditions of its policy: any error is one of the diff or of the runs
+unfoldable pub IsPolicyIn : Merging → Option (List GateCondition) → Type 0
+IsPolicyIn m conditions = (conditions_or_none (policy_read_in m) ≡ conditions)
     × (faults_of (inputs_in m)
     ≡ faults_of_change (change_read_in m) ++ faults_of_runs (all_runs (inputs_in m)))
 

@@ -1,26 +1,33 @@
-use Rattle.std.proofs.Common.{ap, refl}
+use Rattle.std.proofs.Common.{◌≡◌, ◌∙◌, ◌++◌, [], false, ap, append-nil}
 use Rattle.sarif_inputs.specs.ChangeIn.{change_or_none, change_read}
-use Rattle.sarif_inputs.specs.Inputs.{baseline_runs, input_runs}
-use Rattle.sarif_inputs_laws.proofs.Parts.{all_faults, apart_faults}
+use Rattle.sarif_inputs.specs.Faults.{faults_of}
+use Rattle.sarif_inputs.specs.Inputs.{Inputs, baseline_runs, input_runs}
+use Rattle.sarif_inputs.specs.PolicyIn.{faults_of_policy, policy_read}
+use Rattle.sarif_inputs_laws.proofs.Parts.{apart_faults}
+use Rattle.sarif_inputs_laws.proofs.Renumbered.{faults-append, none_both}
 use Rattle.sarif_merge.specs.MergedLog.{file_given, runs_counted}
 use Rattle.sarif_prepare.specs.By.{logged_by}
+use Rattle.sarif_runs.specs.Judging.{faults_of_runs}
 use Rattle.sarif_scope.specs.Counted.{hits_by, verdict_by}
 use Rattle.sarif_laws.specs.OneChange.{without_diff}
 use Rattle.sarif_laws.proofs.change.without_a_diff_all_hits_count.Goals as goal
 
+-- only the policy may need the diff
+only_policy : (inputs : Inputs) → faults_of inputs ≡ [] → faults_of (without_diff inputs) ≡ faults_of_policy (policy_read false inputs.policy)
+only_policy inputs none =
+    let fine = apart_faults inputs none in
+    let now = input_runs inputs in
+    let before = baseline_runs inputs in
+    let policy = faults_of_policy (policy_read false inputs.policy) in
+    let runs = faults-append now before ∙ none_both (faults_of_runs now) (faults_of_runs before) fine.log_runs fine.older_runs in
+    let others : faults_of (without_diff inputs) ≡ policy ++ [] =
+    λ i. fine.logs i ++ (fine.baselines i ++ (fine.sources i ++ (fine.file i ++ (policy ++ runs i)))) in
+    others ∙ append-nil policy
+
 pub returns : goal.returns
 returns c = record {
-  faultless = λ inputs none.
-      let fine = apart_faults inputs none in
-      all_faults (without_diff inputs) (record {
-        logs = fine.logs;
-        baselines = fine.baselines;
-        sources = fine.sources;
-        file = fine.file;
-        change = refl;
-        log_runs = fine.log_runs;
-        older_runs = fine.older_runs;
-      });
+  faultless = λ inputs no_policy none. only_policy inputs none ∙ ap (λ policy. faults_of_policy (policy_read false policy)) no_policy;
+  needed = only_policy;
   log = λ inputs policy no_diff.
       ap (λ diff. logged_by inputs.checks (file_given inputs) (input_runs inputs) (baseline_runs inputs)
       (change_or_none (change_read inputs.checks diff)) policy) no_diff;

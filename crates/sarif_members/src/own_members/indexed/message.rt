@@ -7,7 +7,8 @@ ghost use Rattle.sarif_model.specs.Members.{result_map, read_each};
 ghost use Rattle.sarif_model.specs.Internal.Refusal.{IfFault};
 
 use super::super::message::MessageAndRule;
-use crate::node_members::{elements_at, object_at, object_within, text_at, text_of, text_within};
+use crate::node_members::{elements_at, object_within, text_of, text_within};
+use crate::result_node::ResultNode;
 use json_parts::Node;
 use sarif_model::{Fault, Message, Refusal, Sequence, Text, copy_if_there};
 use std::alloc::Global;
@@ -56,11 +57,11 @@ fn read_texts(
 
 /// The message of a result; empty if it is missing.
 #[tactic(auto, unfolding(crate::specs::OwnMembers::own_message))]
-fn read_message(alloc: Global, found: &Node<'_, '_>) -> Result<Message, Refusal<Fault>>
+fn read_message(alloc: Global, found: &ResultNode<'_, '_, '_>) -> Result<Message, Refusal<Fault>>
     ensures ok { IfOk result (λ message. own_message (value_at found.now) ≡ Ok message) }
     ensures err { IfFault result (λ fault. own_message (value_at found.now) ≡ Err fault) }
 {
-    let message = object_at(found, "message", Fault::BadMember)?;
+    let message = found.object_at("message", Fault::BadMember)?;
     let text = text_within(&message, "text", Fault::BadMember)?;
     let id = text_within(&message, "id", Fault::BadMember)?;
     let args = read_texts(alloc, &message, "arguments")?;
@@ -73,11 +74,11 @@ fn read_message(alloc: Global, found: &Node<'_, '_>) -> Result<Message, Refusal<
 
 /// `ruleId` of a result, otherwise its `rule.id`.
 #[tactic(auto, unfolding(crate::specs::OwnMembers::own_rule_id))]
-fn read_rule_id<'a>(found: &Node<'_, 'a>) -> Result<Option<&'a str>, Fault>
+fn read_rule_id<'a>(found: &ResultNode<'_, '_, 'a>) -> Result<Option<&'a str>, Fault>
     ensures { result_map (option_map (λ id. id.now)) result ≡ own_rule_id (value_at found.now) }
 {
-    let own = text_at(found, "ruleId", Fault::BadMember)?;
-    let rule = object_at(found, "rule", Fault::BadMember)?;
+    let own = found.text_at("ruleId", Fault::BadMember)?;
+    let rule = found.object_at("rule", Fault::BadMember)?;
     let id = text_within(&rule, "id", Fault::BadMember)?;
     object_within(&rule, "toolComponent", Fault::BadMember)?;
     Ok(own.or(id))
@@ -88,7 +89,7 @@ fn read_rule_id<'a>(found: &Node<'_, 'a>) -> Result<Option<&'a str>, Fault>
 #[tactic(auto, unfolding(crate::specs::OwnMembers::own_message_and_rule))]
 pub(super) fn read_message_and_rule(
     alloc: Global,
-    found: &Node<'_, '_>,
+    found: &ResultNode<'_, '_, '_>,
 ) -> Result<MessageAndRule, Refusal<Fault>>
     ensures ok { IfOk result (λ said. own_message_and_rule (value_at found.now) ≡ Ok said) }
     ensures err { IfFault result
@@ -96,7 +97,7 @@ pub(super) fn read_message_and_rule(
 {
     let message = read_message(alloc, found)?;
     let rule_id = read_rule_id(found)?;
-    object_at(found, "provenance", Fault::BadMember)?;
+    found.object_at("provenance", Fault::BadMember)?;
     Ok(MessageAndRule {
         message,
         rule_id: copy_if_there(alloc, rule_id)?,

@@ -5,6 +5,7 @@ ghost use Rattle.sarif_members.specs.Regions as said;
 
 use super::super::region::{RegionAndSnippet, have_same_lines, is_all_blank};
 use crate::node_members::{first_element, kept_member, text_of, unsigned_of};
+use crate::result_node::ResultNode;
 use json_parts::Node;
 use sarif_model::{Region, Text};
 use std::alloc::{AllocError, Global};
@@ -21,10 +22,10 @@ fn member_in<'t, 'a>(found: &Option<Node<'t, 'a>>, name: &str) -> Option<Node<'t
 }
 
 /// `locations[0].physicalLocation` of a result.
-fn physical_location<'t, 'a>(found: &Node<'t, 'a>) -> Option<Node<'t, 'a>>
+fn physical_location<'t, 'a>(found: &ResultNode<'_, 't, 'a>) -> Option<Node<'t, 'a>>
     ensures { option_map value_at result ≡ said.physical_location (value_at found.now) }
 {
-    let locations = kept_member(found, "locations")?;
+    let locations = found.kept_member("locations")?;
     let first = first_element(&locations)?;
     kept_member(&first, "physicalLocation")
 }
@@ -128,7 +129,7 @@ fn region_within(
 /// physicalLocation object, "region property", "contextRegion property").
 pub(super) fn read_region(
     alloc: Global,
-    found: &Node<'_, '_>,
+    found: &ResultNode<'_, '_, '_>,
     regions: bool,
 ) -> Result<RegionAndSnippet, AllocError>
     ensures { IfOk result (λ read. read ≡ said.own_region regions (value_at found.now)) }

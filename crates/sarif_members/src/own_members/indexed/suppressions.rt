@@ -6,7 +6,8 @@ ghost use Rattle.sarif_read.specs.Internal.Listed.{value_at};
 ghost use Rattle.sarif_members.specs.OwnMembers.{own_statuses};
 ghost use Rattle.sarif_model.specs.Internal.Refusal.{IfFault};
 
-use crate::node_members::{member_at, objects_at, text_if_there, text_of};
+use crate::node_members::{member_at, text_if_there, text_of};
+use crate::result_node::ResultNode;
 use json_parts::Node;
 use sarif_model::{Fault, Refusal, Sequence, Status};
 use std::alloc::Global;
@@ -58,11 +59,11 @@ fn statuses_of(
 #[tactic(auto, unfolding(crate::specs::OwnMembers::own_statuses))]
 pub(super) fn read_statuses(
     alloc: Global,
-    found: &Node<'_, '_>,
+    found: &ResultNode<'_, '_, '_>,
 ) -> Result<Sequence<Status>, Refusal<Fault>>
     ensures ok { IfOk result (λ held. own_statuses (value_at found.now) ≡ Ok held) }
     ensures err { IfFault result (λ fault. own_statuses (value_at found.now) ≡ Err fault) }
 {
-    let suppressions = objects_at(alloc, found, "suppressions", Fault::BadSuppression)?;
+    let suppressions = found.objects_at(alloc, "suppressions", Fault::BadSuppression)?;
     statuses_of(alloc, suppressions.as_slice())
 }

@@ -8,7 +8,7 @@ use Rattle.sarif_merge.proofs.merge_sources.merge_readers.Goals as goal
 pub returns-in_err-check_numbers-clause-risen : goal.returns-in_err-check_numbers-clause-risen
 returns-in_err-check_numbers-clause-risen g c =
     let all = c.args.readers.now in
-    record { logs = none_has_fallen all.logs.items; baselines = none_has_fallen all.baselines.items; suppressions = omega arith; diff = omega arith }
+    record { logs = none_has_fallen all.logs.items; baselines = none_has_fallen all.baselines.items; suppressions = omega arith; policy = omega arith; diff = omega arith }
 
 pub returns-in_err-made-clause-refused : goal.returns-in_err-made-clause-refused
 returns-in_err-made-clause-refused g c =

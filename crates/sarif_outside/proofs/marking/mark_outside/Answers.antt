@@ -3,7 +3,8 @@ use Rattle.std.specs.List.{All}
 use Rattle.sarif_runs.specs.Internal.Opened.{placed_of}
 use Rattle.sarif_runs.specs.Internal.Spots.{IsSpotOf}
 use Rattle.sarif_runs.proofs.SpotsWithin.{spots_within}
-use Rattle.sarif_outside.specs.Internal.Asked.{mark_by, placed_looked}
+use Rattle.std.proofs.lemmas.List.Elements.{All-same}
+use Rattle.sarif_outside.specs.Internal.Asked.{IsLookedFor, mark_by, placed_looked}
 use Rattle.sarif_outside.specs.Marks.{both, is_outside_at}
 use Rattle.sarif_outside.proofs.marking.mark_outside.Goals as goal
 
@@ -11,7 +12,7 @@ pub list_asked-requires-clause-within : goal.list_asked-requires-clause-within
 list_asked-requires-clause-within g c =
     let runs = map placed_of c.args.runs.now in
     let named : map placed_looked c.deref.result.now ≡ runs =
-    ap (map placed_looked) c.deref.ensures.value ∙ c.in_ok-looked.ensures in
+    ap (map placed_looked) c.deref.ensures.value ∙ c.in_ok-looked.ensures.placed in
     let places = c.deref-2.ensures.value ∙ c.in_ok-spots.ensures in
     subst (λ ps. All (IsSpotOf ps) c.deref-2.result.now) (sym named) (subst (All (IsSpotOf runs)) (sym places) (spots_within runs))
 
@@ -21,7 +22,7 @@ returns g c =
     let asked = c.args.asked.now in
     let runs = map placed_of c.args.runs.now in
     c.in_ok-marks.ensures
-    ∙ ap (map (mark_by change)) c.deref-3.ensures.value
-    ∙ c.in_ok-list.ensures change
-    ∙ ap (λ ps. both asked (map (is_outside_at change ps) c.deref-2.result.now)) (ap (map placed_looked) c.deref.ensures.value ∙ c.in_ok-looked.ensures)
+    ∙ ap (map mark_by) c.deref-3.ensures.value
+    ∙ c.in_ok-list.ensures change (All-same (IsLookedFor change) c.deref.result.now c.in_ok-looked.looked.items c.deref.ensures.value c.in_ok-looked.ensures.looked)
+    ∙ ap (λ ps. both asked (map (is_outside_at change ps) c.deref-2.result.now)) (ap (map placed_looked) c.deref.ensures.value ∙ c.in_ok-looked.ensures.placed)
     ∙ ap (λ l. both asked (map (is_outside_at change runs) l)) (c.deref-2.ensures.value ∙ c.in_ok-spots.ensures)

@@ -16,7 +16,7 @@ use Rattle.sarif_program.proofs.run.merge_for.Goals as goal
 pub returns-in_err-made-clause-risen : goal.returns-in_err-made-clause-risen
 returns-in_err-made-clause-risen g c =
     let all = c.args.readers.now in
-    record { logs = none_has_fallen all.logs.items; baselines = none_has_fallen all.baselines.items; suppressions = omega arith; diff = omega arith }
+    record { logs = none_has_fallen all.logs.items; baselines = none_has_fallen all.baselines.items; suppressions = omega arith; policy = omega arith; diff = omega arith }
 
 pub returns-clause-summary : goal.returns-clause-summary
 returns-clause-summary g c =

@@ -1,15 +1,16 @@
-use Rattle.std.proofs.Common.{rules, ◌≡◌, codes, ap, ◌∙◌}
-use Rattle.serde_json.specs.Data.{null, put}
-use Rattle.serde_json.specs.View.{view, members_view}
-use Rattle.serde_json.specs.declared.value.Value.{Null, the_lemmas}
+use Rattle.std.proofs.Common.{rules, ◌≡◌, codes, option_map, ap, ◌∙◌}
+use Rattle.serde_json.specs.Data.{no_items}
+use Rattle.serde_json.specs.View.{view, items_view}
+use Rattle.serde_json.proofs.Views.{view-lookup}
+use Rattle.sarif_counts.specs.CountOf.{items_in}
 use Rattle.sarif_results.proofs.annotate.take_suppressions.Goals as goal
 
-pub returns-in-Some-clause-left : goal.returns-in-Some-clause-left
-returns-in-Some-clause-left c =
-    let seen : view Null ≡ null = search (rules, the_lemmas) in
-    c.in_ok-found.ensures.left ∙ ap (λ d. put (codes "suppressions") d (members_view c.args.members.now.entries)) seen
+pub returns-in-Some : goal.returns-in-Some
+returns-in-Some c =
+    c.into_items.ensures
+    ∙ ap items_in (ap (option_map view) c.in-Some.ensures.value ∙ view-lookup (codes "suppressions") c.args.members.now.entries)
 
-pub returns-in-None-clause-left : goal.returns-in-None-clause-left
-returns-in-None-clause-left c =
-    let seen : view Null ≡ null = search (rules, the_lemmas) in
-    c.in_ok-found.ensures.left ∙ ap (λ d. put (codes "suppressions") d (members_view c.args.members.now.entries)) seen
+pub returns-in-None : goal.returns-in-None
+returns-in-None c =
+    let none : items_view c.new.result.items ≡ no_items = search rules in
+    none ∙ ap items_in (ap (option_map view) c.in-None.ensures.value ∙ view-lookup (codes "suppressions") c.args.members.now.entries)

@@ -18,7 +18,7 @@ finish_draft-requires c =
     let d = stripped (data_of c.args.node.now) in
     record {
       list =
-          ap items_have_float c.in_ok-own.ensures ∙ ap (λ o. items_have_float (items_in o)) c.requires.own
+          ap items_have_float c.own_of-own.ensures ∙ ap (λ o. items_have_float (items_in o)) c.requires.own
           ∙ items_in_whole (get (codes "suppressions") d) (get_whole (codes "suppressions") d c.requires.whole);
     }
 
@@ -26,8 +26,8 @@ pub returns : goal.returns
 returns c =
     let d = stripped (data_of c.args.node.now) in
     let ms = members_in d in
-    let own = items_view c.in_ok-own.own.items in
+    let own = items_view c.own_of-own.result.items in
     let applied : Applied = record { entries = c.new.result; suppressed = false } in
     draft_is (λ _ own. own) unapplied c.args.record.now ms c.in_ok-draft.draft applied own c.in_ok-draft.ensures
     (ap (λ es. record { entries = es; suppressed = false }) c.new.ensures)
-    (c.in_ok-own.ensures ∙ ap items_in c.requires.own ∙ sym (own_in d) ∙ sym (items_of_elements (own_suppressions ms)))
+    (c.own_of-own.ensures ∙ ap items_in c.requires.own ∙ sym (own_in d) ∙ sym (items_of_elements (own_suppressions ms)))

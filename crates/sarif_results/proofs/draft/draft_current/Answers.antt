@@ -22,9 +22,9 @@ finish_draft-requires c =
     let file = c.args.file.now in
     let r = c.args.record.now in
     let d = stripped (data_of c.args.node.now) in
-    let own = map view c.in_ok-own.own.items in
+    let own = map view c.own_of-own.result.items in
     let of_own : list_any has_float own ≡ false =
-    sym (items_whole own) ∙ ap items_have_float c.in_ok-own.ensures ∙ ap (λ o. items_have_float (items_in o)) c.requires.own
+    sym (items_whole own) ∙ ap items_have_float c.own_of-own.ensures ∙ ap (λ o. items_have_float (items_in o)) c.requires.own
     ∙ items_in_whole (get (codes "suppressions") d) (get_whole (codes "suppressions") d c.requires.whole) in
     let listed = c.in_ok-list.ensures r c.in_ok-applied.ensures.entries in
     record {
@@ -39,12 +39,12 @@ returns c =
     let r = c.args.record.now in
     let d = stripped (data_of c.args.node.now) in
     let ms = members_in d in
-    let own = map view c.in_ok-own.own.items in
+    let own = map view c.own_of-own.result.items in
     let a = c.in_ok-applied.applied in
     let list = items_view c.in_ok-list.list.items in
     let listed = c.in_ok-list.ensures r c.in_ok-applied.ensures.entries in
     let owned : own ≡ elements (own_suppressions ms) =
-    sym (items_back own) ∙ ap elements (c.in_ok-own.ensures ∙ ap items_in c.requires.own ∙ sym (own_in d)) in
+    sym (items_back own) ∙ ap elements (c.own_of-own.ensures ∙ ap items_in c.requires.own ∙ sym (own_in d)) in
     draft_is (λ r own. suppressions_of own file r) (applied_of file) r ms c.in_ok-draft.draft a list c.in_ok-draft.ensures
     (ap (λ es. record { entries = es; suppressed = a.suppressed }) c.in_ok-applied.ensures.entries
     ∙ ap (λ b. record { entries = matching_numbers file r; suppressed = b }) c.in_ok-applied.ensures.verdict)

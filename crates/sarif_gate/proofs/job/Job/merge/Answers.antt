@@ -14,12 +14,13 @@ returns g c =
         logs = job.logs;
         baselines = job.baselines;
         suppressions = job.suppressions;
+        policy = job.policy;
         diff = job.diff;
         out = job.out;
         reports = job.reports;
         say = job.say;
       };
-      unread = omega (arith, job.fresh_logs, job.fresh_baselines, job.fresh_suppressions, job.fresh_diff);
+      unread = omega (arith, job.fresh_logs, job.fresh_baselines, job.fresh_suppressions, job.fresh_policy, job.fresh_diff);
       unwritten = omega (arith, job.fresh_out, job.fresh_reports, job.fresh_say);
       run = c.merge_streams.ensures;
     }

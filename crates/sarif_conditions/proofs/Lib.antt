@@ -1,0 +1,4 @@
+pub mod Currents
+pub mod DecidedLaws
+pub mod DecidingMore
+pub mod PolicyWhole

@@ -1,0 +1,2 @@
+-- Definitions for contracts within the crate, and for proofs.
+pub mod Deciding

@@ -1,0 +1,6 @@
+pub mod DecimalLoops
+pub mod DecimalOrder
+pub mod FromConditions
+pub mod FromFilters
+pub mod FromStates
+pub mod LawsMore

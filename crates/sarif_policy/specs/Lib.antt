@@ -1,0 +1,7 @@
+pub mod Condition
+pub mod Decimal
+pub mod Fault
+pub mod File
+pub mod Limits
+pub mod Rating
+pub mod Reading

@@ -1,0 +1,3 @@
+pub mod FirstNumbers
+pub mod OwnOr
+pub mod RunsRated
