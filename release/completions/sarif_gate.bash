@@ -26,10 +26,10 @@ _sarif_gate() {
     if [[ $word == -* ]]; then
         mapfile -t COMPREPLY < <(compgen -W '--baseline --suppress --diff --today --require-success
             --allow-external-properties --ignore-fingerprint --fail-on --states --max
-            --diff-scope --matching --once --out --root --show --link --text --github
-            --markdown --gitlab --html --junit --azure --unused --accept --prune --reason
-            --until --at --rule --adopt --suppress-out --known --workers --explain --help -h
-            --version -V' -- "$word")
+            --diff-scope --policy --matching --once --out --root --show --link --text
+            --github --markdown --gitlab --html --junit --azure --unused --accept --prune
+            --reason --until --at --rule --adopt --suppress-out --known --workers --explain
+            --help -h --version -V' -- "$word")
         return
     fi
     if [[ $word == @* ]]; then

@@ -12,6 +12,7 @@ complete -c sarif_gate -l fail-on -x -a 'error warning note none' -d 'Minimum le
 complete -c sarif_gate -l states -x -d 'States of hits and reported results, joined by commas'
 complete -c sarif_gate -l max -x -d 'Allow up to NUMBER hits, from 0 to 4294967295'
 complete -c sarif_gate -l diff-scope -x -a 'lines files' -d 'What is inside the change of --diff: results on changed lines, or in changed files'
+complete -c sarif_gate -l policy -r -F -d 'JSON file of conditions, each with its own level, states, limit and filters'
 complete -c sarif_gate -l matching -x -d 'How results match the baseline: 2 is by fingerprints or place, 3 is by snippets and regions too'
 complete -c sarif_gate -l once -d 'Match and count equal results at one place only once, such as those of a header that many files include'
 complete -c sarif_gate -l out -r -F -d 'Write the merged log to FILE'

@@ -133,6 +133,33 @@ def changes():
     yield Case("memory", "a diff on standard input", ["--out", "o", "--diff", "-", "a"], files={"a": NOW}, stdin=DIFF, status=1)
 
 
+POLICY = text(
+    {
+        "version": 1,
+        "conditions": [
+            {"name": "rated", "level": "note", "minSecuritySeverity": "7.0", "only": [{"tool": "lint"}, {"uriPrefix": "gen/"}]},
+            {"name": "no more", "states": ["new"], "ratchet": True, "except": [{"fingerprints": {"f/v1": "x"}}], "max": 1},
+            {"name": "all", "level": "none", "max": 100},
+        ],
+    }
+)
+
+
+def policies():
+    """Merges with a policy of several conditions."""
+    old = {**OLD_OUTPUT, "p": POLICY, "t": OLD, "h": OLD}
+    more = ["--policy", "p", "--text", "t", "--html", "h"]
+    told = lambda answer: [f"it said {answer.stdout[-90:]!r}"] * (b"\ncondition no more: pass, " not in answer.stdout)
+    for workers in (1, 4):
+        yield memory("a policy", [NOW, ONE], workers, baselines=[BEFORE], more=more, old=old, status=1, check=told)
+    bad = POLICY.replace(b'"no more"', b'"rated"')
+    fault = "policy, condition 1: SameName"
+    yield memory("a policy that is rejected", [NOW], 1, more=more, old={**old, "p": bad}, **refused(fault))
+    check = explains(fault, where="/conditions/1/name", found='"rated"')
+    given = {"more": [*more, "--explain"], "old": {**old, "p": bad}, "status": 2, "stdout": b"", "check": check}
+    yield memory("a policy that is rejected, explained", [NOW], 1, **given)
+
+
 def words():
     files = {"a": NOW, "g": b"# a\n--workers\n1\na\n", "h": b"a\n@g\n", **OLD_OUTPUT}
     rows = {
@@ -176,5 +203,5 @@ def later_merges():
 
 
 def cases():
-    for part in (merges, changes, refusals, explanations, words, outputs, later_merges):
+    for part in (merges, changes, policies, refusals, explanations, words, outputs, later_merges):
         yield from part()

@@ -151,6 +151,8 @@ def told_of_words():
         ("--diff d --states new,absent", "--states with absent and --diff cannot be used together"),
         ("--diff - -", "standard input (-) can be only one of the logs and --diff"),
         ("--diff d --text d", "--text would overwrite the diff d"),
+        ("--policy p --max 0", "--max and --policy cannot be used together: each condition has its own max"),
+        ("--policy p --text p", "--text would overwrite the policy p"),
     ):
 
         def check(answer, sentence=sentence):
@@ -458,6 +460,34 @@ def explained_diffs():
     yield explained("a folder as a diff", {}, fault, words, file=".", found="a folder")
 
 
+def explained_policies():
+    """Errors of a policy, with the value that has them."""
+    words = ["--policy", "p", "--out", "o", "a"]
+    c = {"name": "c"}
+    for fault, given, told in (
+        ("policy: NotJson", b"", {"line": "1", "column": "0", "found": "an empty file"}),
+        ("policy: NotPolicy", [], {"where": "", "found": "[]"}),
+        ("policy: NotPolicy", {"suppressions": []}, {"where": "/suppressions", "advice": "this is a suppression file; pass it with --suppress"}),
+        ("policy: WrongVersion", {"conditions": [c]}, {"where": "", "found": "nothing", "advice": 'add "version": 1 to the file'}),
+        ("policy: NoCondition", [[]], {"where": "/conditions", "found": "[]", "wanted": "at least one condition"}),
+        ("policy: TooMany", [[c] * 101], {"where": "/conditions", "wanted": "at most 100 conditions"}),
+        ("policy, condition 1: BadCondition", [[c, {"name": "d", "max": -1}]], {"where": "/conditions/1/max", "found": "-1"}),
+        ("policy, condition 0, only 1: BadFilter", [[{**c, "only": [{"tool": "t"}, {"level": "note"}]}]], {"where": "/conditions/0/only/1/level", "found": '"note"'}),
+        ("policy, condition 0, except 0: EmptyFilter", [[{**c, "except": [{}]}]], {"where": "/conditions/0/except/0", "found": "{}"}),
+        ("policy, condition 1: SameName", [[c, c]], {"where": "/conditions/1/name", "found": '"c"'}),
+        ("policy, condition 0: NeedsDiff", [[{**c, "diff": "lines"}]], {"where": "/conditions/0/diff", "found": '"lines"'}),
+    ):
+        if isinstance(given, list) and given:
+            given = {"version": 1, "conditions": given[0]}
+        given = given if isinstance(given, bytes) else text(given)
+        yield explained(f"{fault} of {given[:60]!r}", {"p": given}, fault, words, **{"file": "p", "wanted": True, "advice": True, **told})
+    fault = "policy: ReadFailed (p)"
+    yield explained("a policy that isn't there", {}, fault, words, file="p", system=NO_FILE, advice=True)
+    fault = "policy: ReadFailed (.)"
+    words = ["--policy", ".", "--out", "o", "a"]
+    yield explained("a folder as a policy", {}, fault, words, file=".", found="a folder")
+
+
 def explained_choices():
     """Places and rules that fit no hit that is accepted."""
     hit = log(run("lint", ruled(level="error")))
@@ -589,6 +619,7 @@ def explanations():
     yield from explained_outputs()
     yield from explained_choices()
     yield from explained_diffs()
+    yield from explained_policies()
     yield from explained_inputs(bad)
     yield from explained_forms()
     evil = plain(correlationGuid="x\n\x1b[31m##\u202e")

@@ -225,7 +225,7 @@ def says_usage(answer):
 
 OPTIONS = ("--baseline", "--suppress", "--today", "--workers", "--fail-on", "--max", "--out")
 OPTIONS += ("--require-success", "--allow-external-properties", "--matching", "--once", "--ignore-fingerprint")
-OPTIONS += ("--at", "--rule", "--diff", "--diff-scope")
+OPTIONS += ("--at", "--rule", "--diff", "--diff-scope", "--policy")
 
 
 def says_help(answer):

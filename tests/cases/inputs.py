@@ -1,10 +1,11 @@
-"""Small random inputs of a merge: logs, baselines, suppression files and diffs over a few strings, so that
+"""Small random inputs of a merge: logs, baselines, suppression files, policies and diffs over a few strings, so that
 they often match, collide and clash. If the chance `wrong` isn't 0, a member may have any type.
 """
 
 import json
 
 from drawn_diffs import Diffs
+from drawn_policies import Policies
 
 GUID = "0f14d0ab-9605-4a62-a9e4-5ed26688389b"
 GUIDS = [GUID, GUID.upper(), GUID.replace("-", ""), f"{{{GUID}}}", f"URN:uuid:{GUID}", "7" * 32]
@@ -47,6 +48,7 @@ class Raw:
 
 
 FRACTIONS = [Raw(it) for it in ("1.5", "1.0", "1e2", "-0", "-0.0", "18446744073709551616", "1E-9")]
+RATINGS = ["7.0", "6.9", "9.8", "0.0", "10", "07.00", "high", "7.", 9, True, None, Raw("9.8")]
 WHOLE = [0, 1, -1, -2, 4294967295, 4294967296, 2**64 - 1, -(2**63)]
 OTHERS = [True, False, None, "", "x", [], {}, [1], [None], [{}], {"a": 1}, {"a": None}, "absent"]
 LONE = [
@@ -167,6 +169,7 @@ class Inputs:
         return self.members(
             ("id", 1 - self.wrong / 8, self.one(RULES)),
             ("defaultConfiguration", 0.6, configuration),
+            ("properties", 0.3, self.properties),
         )
 
     def artifact_list(self):
@@ -236,10 +239,15 @@ class Inputs:
             ("relatedLocations", 0.15, self.list([1, 3, 1], self.other_place)),
             ("codeFlows", 0.1, self.list([1, 3], self.flow)),
             ("rank", 0.2, self.one(FRACTIONS)),
-            ("properties", 0.3, lambda: self.anything(3)),
+            ("properties", 0.3, self.properties),
             *[("provenance", 0.4, self.of(index))] * self.has_rules,
         )
         return {**found, **self.referring()} if self.has_rules else found
+
+    def properties(self):
+        """A property bag, which may have a security severity."""
+        rated = self.of(("security-severity", 0.9, self.one(RATINGS)))
+        return rated() if self.chance(0.5) else self.anything(3)
 
     def message(self):
         return self.members(
@@ -362,6 +370,11 @@ class Inputs:
         if not self.chance(0.1 * bool(self.wrong)):
             found.setdefault("ruleId", self.any(RULES))
         return found
+
+    # ---- a policy
+
+    def policy(self, has_diff):
+        return Policies(self, has_diff).policy()
 
     # ---- a diff
 

@@ -10,12 +10,13 @@ import tempfile
 from pathlib import Path
 
 from cases import line, log, ruled, run
-from cases_memory import BEFORE, DAY, DIFF, ENTRIES, NOW, OLD_OUTPUT, memory
+from cases_memory import BEFORE, DAY, DIFF, ENTRIES, NOW, OLD_OUTPUT, POLICY, memory
 from cases_output import linked
 from refusing import Refusal, Room, run as run_with, state
 
 LOST = line("output: WriteFailed")
-UNREAD = [line(f"{part}: ReadFailed") for part in ("log 0", "log 1", "baseline 0", "suppressions", "diff")]
+SOURCES = ("log 0", "log 1", "baseline 0", "suppressions", "policy", "diff")
+UNREAD = [line(f"{part}: ReadFailed") for part in SOURCES]
 SIGNALS = (signal.SIGTERM, signal.SIGKILL)
 LARGE = log(run("lint", *[ruled()] * 300))
 
@@ -23,9 +24,11 @@ LARGE = log(run("lint", *[ruled()] * 300))
 def rows():
     """A case, with the error lines that some of its runs must print."""
     parts = {"baselines": [BEFORE], "suppress": ENTRIES, "more": DAY, "status": 1}
-    yield memory("a merge over an old output", [NOW, NOW], 4, **parts), [*UNREAD[:-1], LOST]
+    yield memory("a merge over an old output", [NOW, NOW], 4, **parts), [*UNREAD[:4], LOST]
     parts = {"more": ["--diff", "d"], "old": {**OLD_OUTPUT, "d": DIFF}, "status": 1}
     yield memory("a merge with a diff", [NOW], 1, **parts), [UNREAD[0], UNREAD[-1], LOST]
+    parts = {"more": ["--policy", "p"], "old": {**OLD_OUTPUT, "p": POLICY}, "status": 1}
+    yield memory("a merge with a policy", [NOW], 1, **parts), [UNREAD[0], UNREAD[-2], LOST]
     link = {"prepare": linked("there/p", folder="there"), "old": {}}
     yield memory("a new output through a link", [LARGE], 1, **link), [UNREAD[0], LOST]
     yield memory("a refused merge", [b"{"], 1, status=2), [UNREAD[0]]

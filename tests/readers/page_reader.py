@@ -191,7 +191,8 @@ class PageReader(HTMLParser):
         )
         header, main = body.first("header"), body.first("main")
         parts = [it.name for it in walked(header) if it.name in ("h1", "p", "nav", "table")]
-        in_order = [it for it in parts if it != "p"] in (["h1", "table"], ["h1", "nav", "table"])
+        orders = [[*start, *["table"] * count] for start in (["h1"], ["h1", "nav"]) for count in (1, 2)]
+        in_order = [it for it in parts if it != "p"] in orders
         wrong += [f"the header has {parts}"] * (not in_order)
         wrong += ["there are several h1"] * (len(list(self.top.all("h1"))) != 1)
         for section in main.all("section"):
@@ -295,6 +296,12 @@ class PageReader(HTMLParser):
                     marked.add((state, level, "badly"))
         return numbers, marked
 
+    def conditions(self):
+        """The texts of the second table of the header, each row with its cells; none without one."""
+        _, *others = self.top.first("header").all("table")
+        rows = [row for table in others for row in table.all("tr") if row.first("td")]
+        return [[row.first("th").text, *(it.text for it in row.all("td"))] for row in rows]
+
     def boxes(self):
         """The names of the boxes by group. Each group is within an element that only a style displays."""
         found = {}
@@ -348,6 +355,7 @@ def page_faults(source, reports):
         "header": (page.paragraphs("header"), [wanted.reason(), *wanted.sentences()]),
         "links": (page.links(), wanted.links()),
         "counts": (page.counts(), (reports.counts(), wanted.marked())),
+        "conditions": (page.conditions(), wanted.conditions()),
         "boxes": (page.boxes(), wanted.boxes()),
         "rest": (page.paragraphs("main"), wanted.rest()),
     }

@@ -460,9 +460,9 @@ class Reports:
         lines += [""] * bool(self.notes()) + self.notes()
         if self.conditions():
             lines += ["", markdown_row(*OF_CONDITIONS), "|---|---|--:|--:|--:|", *self.condition_rows()]
-        if self.results:
-            lines += ["", markdown_row("hit", "level", *SHOWN, "state"), "|---" * 7 + "|"]
-            lines += self.markdown_rows()
+        rows = self.markdown_rows()
+        if rows:
+            lines += ["", markdown_row("hit", "level", *SHOWN, "state"), "|---" * 7 + "|", *rows]
         lines += [it for end in self.ends() for it in ("", end)]
         return "".join(f"{line}\n" for line in lines).encode()
 

@@ -8,7 +8,7 @@ use Rattle.std.proofs.lemmas.List.Sums.{sum_by-append, sum_by_push}
 use Rattle.sarif_entries.specs.declared.entry.Entry.{Entry}
 use Rattle.sarif_policy.specs.Condition.{checks}
 use Rattle.sarif_policy.specs.declared.condition.GateCondition.{GateCondition}
-use Rattle.sarif_conditions.specs.Decided.{is_failing, hits_of, impact_of, is_absent, is_hit, is_hit_of, is_inside, is_known, is_reported_by, unchecked_of, unused_by, unused_of, went_away, would_hit}
+use Rattle.sarif_conditions.specs.Decided.{is_failing, hits_of, impact_of, is_absent, is_hit_of, is_inside, is_known, is_reported_by, unused_by, unused_of, went_away, would_hit}
 use Rattle.sarif_conditions.specs.Facts.{decided_of, facts_of_condition, most_unused, with_scope}
 use Rattle.sarif_conditions.specs.Internal.Deciding.{deciding_of, fails_by, facts_by, impact_in, outcome_of, standing_before, standing_of, with_condition, with_outcome, with_outcomes}
 use Rattle.sarif_counts.specs.declared.gate_verdict.Impact.{Impact}
@@ -153,31 +153,42 @@ known_same : (cs : List GateCondition) (all rs : List Judged)
 known_same cs all [] = refl
 known_same cs all (r ∷ rs) = rw (known_same cs all rs) refl
 
-abbrev decided_with : List ConditionFacts → ℕ → ℕ → ℕ → List (Option Impact) → List Bool → Decided
-decided_with conditions hits unchecked unused impacts known = record {
-  facts = record { conditions = conditions; hits = hits; unchecked = unchecked; unused_filters = unused };
+abbrev decided_with : List ConditionFacts → ℕ → ℕ → ℕ → ℕ → List (Option Impact) → List Bool → Decided
+decided_with conditions hits reported unchecked unused impacts known = record {
+  facts = record {
+    conditions = conditions;
+    hits = hits;
+    reported = reported;
+    unchecked = unchecked;
+    unused_filters = unused;
+  };
   impacts = impacts;
   known = known;
 }
 
+-- what is said of the results at the end
+abbrev told_by : Deciding → Decided
+told_by d = decided_with d.facts (count_by (λ (s : Standing). s.hit) d.standings) (count_by (λ (s : Standing). s.reported) d.standings)
+    (count_by (λ (s : Standing). s.unchecked) d.standings) d.unused (map impact_in d.standings)
+    (map (λ (s : Standing). s.known) d.standings)
+
+same_decided : {fs : List ConditionFacts} {unused : ℕ} {a b c d e f : ℕ} {xs ys : List (Option Impact)} {ks ls : List Bool}
+    → a ≡ d → b ≡ e → c ≡ f → xs ≡ ys → ks ≡ ls → decided_with fs a b c unused xs ks ≡ decided_with fs d e f unused ys ls
+same_decided one two three four five = cc
+
 -- the facts at the end
 pub decided_is : (cs : List GateCondition) (rs : List Judged) (d : Deciding) → d ≡ deciding_of cs rs
-    → decided_with d.facts (count_by (λ (s : Standing). s.hit) d.standings) (count_by (λ (s : Standing). s.unchecked) d.standings) d.unused
+    → decided_with d.facts (count_by (λ (s : Standing). s.hit) d.standings) (count_by (λ (s : Standing). s.reported) d.standings)
+    (count_by (λ (s : Standing). s.unchecked) d.standings) d.unused
     (map impact_in d.standings) (map (λ (s : Standing). s.known) d.standings) ≡ decided_of cs rs
 decided_is cs rs d is =
-    let all : Deciding → Decided = λ x. decided_with x.facts (count_by (λ (s : Standing). s.hit) x.standings)
-    (count_by (λ (s : Standing). s.unchecked) x.standings) x.unused (map impact_in x.standings) (map (λ (s : Standing). s.known) x.standings) in
-    let fs : List ConditionFacts = map (facts_of_condition rs) cs in
-    let ss : List Standing = map (standing_of cs rs) rs in
-    let unused : ℕ = min most_unused (unused_of cs rs) in
-    let unset : ℕ = count_by (λ (s : Standing). s.unchecked) ss in
-    let marks : List Bool = map (λ (s : Standing). s.known) ss in
-    ap all is
-    ∙ ap (λ n. decided_with fs n unset unused (map impact_in ss) marks) (count_of_map (standing_of cs rs) (λ (s : Standing). s.hit) rs)
-    ∙ ap (λ n. decided_with fs (count_by (is_hit cs) rs) n unused (map impact_in ss) marks)
+    ap told_by is
+    ∙ same_decided
+    (count_of_map (standing_of cs rs) (λ (s : Standing). s.hit) rs)
+    (count_of_map (standing_of cs rs) (λ (s : Standing). s.reported) rs)
     (count_of_map (standing_of cs rs) (λ (s : Standing). s.unchecked) rs)
-    ∙ ap (λ xs. decided_with fs (count_by (is_hit cs) rs) (unchecked_of cs rs) unused xs marks) (impacts_same cs rs rs)
-    ∙ ap (λ xs. decided_with fs (count_by (is_hit cs) rs) (unchecked_of cs rs) unused (map (impact_of cs rs) rs) xs) (known_same cs rs rs)
+    (impacts_same cs rs rs)
+    (known_same cs rs rs)
 
 pub standings_alike : (cs : List GateCondition) (rs : List Judged) (d : Deciding) → d ≡ deciding_of cs rs → length d.standings ≡ length rs
 standings_alike cs rs d is = ap (λ (x : Deciding). length x.standings) is ∙ length-map rs (standing_of cs rs)

@@ -5,7 +5,7 @@ use Rattle.sarif_change.specs.declared.spots.Scope.{Scope}
 use Rattle.sarif_counts.specs.declared.gate_verdict.Verdict.{Verdict}
 use Rattle.sarif_counts.specs.declared.gate_verdict.Verdict.TheVariants.{Pass, Fail}
 use Rattle.sarif_policy.specs.declared.condition.GateCondition.{GateCondition}
-use Rattle.sarif_conditions.specs.Decided.{is_failing, hits_of, impact_of, is_hit, is_known, limit_of, outside_of, unchecked_of, unused_of}
+use Rattle.sarif_conditions.specs.Decided.{is_failing, hits_of, impact_of, is_hit, is_known, is_reported, limit_of, outside_of, unchecked_of, unused_of}
 use Rattle.sarif_conditions.specs.declared.decided.Decided.{Decided}
 use Rattle.sarif_conditions.specs.declared.facts.ConditionFacts.{ConditionFacts}
 use Rattle.sarif_conditions.specs.declared.facts.PolicyFacts.{PolicyFacts}
@@ -33,6 +33,7 @@ abbrev pub facts_of : List GateCondition → List Judged → PolicyFacts
 facts_of cs rs = record {
   conditions = map (facts_of_condition rs) cs;
   hits = count_by (is_hit cs) rs;
+  reported = count_by (is_reported cs) rs;
   unchecked = unchecked_of cs rs;
   unused_filters = min most_unused (unused_of cs rs);
 }

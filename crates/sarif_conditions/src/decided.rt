@@ -9,7 +9,7 @@ use crate::checking::{count_unused, only_of, outcomes_of};
 use crate::deciding::Deciding;
 use crate::facts::PolicyFacts;
 use crate::judged::JudgedResult;
-use crate::standing::{count_hits, count_unchecked, impacts_of, known_of};
+use crate::standing::{count_hits, count_reported, count_unchecked, impacts_of, known_of};
 use sarif_counts::Impact;
 use sarif_model::Sequence;
 use sarif_policy::{GateCondition, GatePolicy};
@@ -77,11 +77,13 @@ fn said_of(alloc: Global, all: Deciding) -> Result<Decided, AllocError>
     let impacts = impacts_of(alloc, standings.as_slice())?;
     let known = known_of(alloc, standings.as_slice())?;
     let hits = count_hits(standings.as_slice()) as u32;
+    let reported = count_reported(standings.as_slice()) as u32;
     let unchecked = count_unchecked(standings.as_slice()) as u32;
     Ok(Decided {
         facts: PolicyFacts {
             conditions: facts,
             hits,
+            reported,
             unchecked,
             unused_filters: unused,
         },

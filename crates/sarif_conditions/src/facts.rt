@@ -37,6 +37,8 @@ pub struct PolicyFacts {
     pub conditions: Sequence<ConditionFacts>,
     /// How many results are hits of a condition.
     pub hits: u32,
+    /// How many results a condition reports.
+    pub reported: u32,
     /// How many active current results no condition checks.
     pub unchecked: u32,
     /// How many filters match no current result, at most 4,294,967,295.

@@ -132,6 +132,17 @@ pub(crate) fn count_hits(standings: &[Standing]) -> usize
     standings.iter().filter(|standing| standing.hit).count()
 }
 
+/// Returns how many results are reported.
+pub(crate) fn count_reported(standings: &[Standing]) -> usize
+    ensures is { result ≡ count_by (λ (s : Standing). s.reported) standings.now }
+    ensures few { result ≤ length standings.now }
+{
+    standings
+        .iter()
+        .filter(|standing| standing.reported)
+        .count()
+}
+
 /// Returns how many active current results no condition checks.
 pub(crate) fn count_unchecked(standings: &[Standing]) -> usize
     ensures is { result ≡ count_by (λ (s : Standing). s.unchecked) standings.now }

@@ -1,6 +1,7 @@
 //! The verdict of the gate, and what a result does to it.
 ghost use Rattle.std.specs.Prelude.{◌≡◌};
 ghost use Rattle.sarif_counts.specs.Hits.{verdict_name};
+ghost use Rattle.sarif_counts.specs.Impacts.{is_hit};
 
 /// The verdict of the gate on a merged log.
 #[derive(Clone, Copy, Debug, PartialEq, Eq)]
@@ -32,4 +33,16 @@ pub enum Impact {
     Hit,
     /// No hit.
     None,
+}
+
+impl Impact {
+    /// Whether the gate counts the result.
+    pub fn is_hit(self) -> bool
+        ensures { result ≡ is_hit self }
+    {
+        match self {
+            Impact::Stops | Impact::Hit => true,
+            Impact::None => false,
+        }
+    }
 }

@@ -26,14 +26,19 @@ pub(crate) fn advice_on_output(at: At) -> &'static str {
     }
 }
 
-/// Returns what to do about a log or a suppression file of the wrong version. If `is_missing` is set, it has no
-/// `version`.
+/// What to do about a policy past a limit.
+const FEWER: &str = "write fewer conditions: one condition may have many filters";
+
+/// Returns what to do about a log, a suppression file or a policy of the wrong version. If `is_missing` is set, it has
+/// no `version`.
 fn advice_on_version(at: At, is_missing: bool) -> &'static str {
     match (at, is_missing) {
         (At::Whole(Source::Suppress), true) => "add \"version\": 4 to the file",
         (At::Whole(Source::Suppress), false) => {
             "write the file in version 4, with \"version\": 4"
         }
+        (At::Whole(Source::Policy), true) => "add \"version\": 1 to the file",
+        (At::Whole(Source::Policy), false) => { "write the file in version 1, with \"version\": 1" }
         (_, true) => {
             "if the file is SARIF 2.1.0, add \"version\": \"2.1.0\" to it; otherwise configure \
              the analyser to write SARIF 2.1.0"
@@ -42,13 +47,47 @@ fn advice_on_version(at: At, is_missing: bool) -> &'static str {
     }
 }
 
-/// Returns what to do about an error in what was read.
-fn advice_on_fault(fault: Fault, at: At, hint: Hint) -> &'static str {
-    match fault {
-        Fault::NotJson => {
+/// Returns what to do about a file that is not JSON.
+fn advice_on_json(at: At) -> &'static str {
+    match at {
+        At::Whole(Source::Policy) => "fix the file there; a policy is one JSON object in UTF-8",
+        _ => {
             "fix the file there, or check that the analyser ended normally and wrote the whole \
              file"
         }
+    }
+}
+
+/// Returns what to do about an input that is past a limit on what it holds.
+fn advice_on_size(at: At) -> &'static str {
+    match at {
+        At::Whole(Source::Policy) => FEWER,
+        At::Whole(Source::Diff) | At::Line(_) => NARROW,
+        _ => SPLIT,
+    }
+}
+
+/// Returns what to do about an error in a policy.
+fn advice_on_policy(fault: Fault) -> &'static str {
+    match fault {
+        Fault::NotPolicy => {
+            "check that you passed the right file; a policy has an array conditions"
+        }
+        Fault::NoCondition => "add a condition; without one, the gate would always pass",
+        Fault::BadFilter => "fix the filter, or validate the file against its JSON Schema",
+        Fault::EmptyFilter => "add a member; without one, the filter would match every result",
+        Fault::SameName => "give each condition a name of its own",
+        Fault::NeedsDiff => {
+            "pass the diff of the change with --diff, or remove diff from the condition"
+        }
+        _ => "fix the condition, or validate the file against its JSON Schema",
+    }
+}
+
+/// Returns what to do about an error in what was read.
+fn advice_on_fault(fault: Fault, at: At, hint: Hint) -> &'static str {
+    match fault {
+        Fault::NotJson => advice_on_json(at),
         Fault::NotLog => {
             "check that you passed the right file, and that the analyser writes SARIF 2.1.0"
         }
@@ -76,10 +115,7 @@ fn advice_on_fault(fault: Fault, at: At, hint: Hint) -> &'static str {
         Fault::AbsentInput => {
             "pass the file with --baseline, or merge the analyser's own log instead"
         }
-        Fault::TooMany => match at {
-            At::Line(_) => NARROW,
-            _ => SPLIT,
-        },
+        Fault::TooMany => advice_on_size(at),
         Fault::NotList => {
             "check that you passed the right file; a suppression file has an array suppressions"
         }
@@ -107,7 +143,7 @@ fn advice_on_fault(fault: Fault, at: At, hint: Hint) -> &'static str {
         | Fault::BadFilter
         | Fault::EmptyFilter
         | Fault::SameName
-        | Fault::NeedsDiff => "fix the condition, or validate the file against its JSON Schema",
+        | Fault::NeedsDiff => advice_on_policy(fault),
     }
 }
 
@@ -117,6 +153,7 @@ fn advice_by_hint(hint: Hint) -> Option<&'static str> {
         Hint::None | Hint::Missing => None,
         Hint::MergedLog => Some("this is a merged log; pass the logs of the analysers"),
         Hint::SuppressionFile => Some("this is a suppression file; pass it with --suppress"),
+        Hint::Policy => Some("this is a policy; pass it with --policy"),
         Hint::OtherJson => Some(
             "this is JSON, but not a SARIF log: check that you passed the right file, and that the \
              analyser writes SARIF 2.1.0",
@@ -133,10 +170,7 @@ pub(crate) fn advice_on(fault: &MergeFault, hint: Hint) -> &'static str {
     }
     match fault.cause {
         Cause::Of(wrong) => advice_on_fault(wrong, fault.at, hint),
-        Cause::TooLong => match fault.at {
-            At::Whole(Source::Diff) => NARROW,
-            _ => SPLIT,
-        },
+        Cause::TooLong => advice_on_size(fault.at),
         Cause::ReadFailed => "check that the file exists, is not a folder and is readable",
         Cause::WriteFailed => {
             "check that the folder exists, that you may write there, and that the disk has room"

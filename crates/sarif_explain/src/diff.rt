@@ -1,12 +1,12 @@
 //! The explanation of an error in a diff.
 ghost use Rattle.std.specs.Prelude.{◌≡◌, ◌++◌, ℕ, List, IfOk, OnOk, codes, string_bytes};
 ghost use Rattle.sarif_explain.specs.Internal.Diff as said;
-ghost use Rattle.sarif_explain.specs.Internal.Lines.{line_of};
+ghost use Rattle.sarif_explain.specs.Internal.Lines.{file_line, line_of};
 
 use crate::advice::advice_on;
 use crate::explaining::{FaultSource, push_sentence};
 use crate::hint::Hint;
-use crate::lines::{push_line, push_number, shorten};
+use crate::lines::{push_file, push_line, push_number, shorten};
 use crate::whole::wanted_by;
 use json_parts::without_mark;
 use sarif_model::{At, MergeFault};
@@ -62,17 +62,6 @@ fn found_in(alloc: Global, line: &[u8]) -> Result<String, AllocError>
     }
 }
 
-/// Adds the file, if it has a name.
-fn push_file(alloc: Global, lines: &mut String, file: &str) -> Result<(), AllocError>
-    ensures { OnOk result
-        (string_bytes lines.new ≡ string_bytes lines.old ++ said.file_line file.now) }
-{
-    if file.is_empty() {
-        return Ok(());
-    }
-    push_line(alloc, lines, "file", file)
-}
-
 /// Adds the number of the line at which the error is, and what was found there.
 fn push_spot(alloc: Global, lines: &mut String, at: At, bytes: &[u8]) -> Result<(), AllocError>
     ensures { OnOk result
@@ -95,7 +84,7 @@ pub fn diff_explanation(
     source: &FaultSource<'_>,
 ) -> Result<String, AllocError>
     ensures { IfOk result (λ s. (wanted : List ℕ) × (advice : List ℕ)
-        × (string_bytes s ≡ said.file_line source.now.file.now
+        × (string_bytes s ≡ file_line source.now.file.now
         ++ (said.spot_of fault.now.at source.now.bytes.now
         ++ (line_of (codes "wanted") wanted ++ line_of (codes "advice") advice)))) }
 {

@@ -1,16 +1,16 @@
 //! The explanation of an error.
-ghost use Rattle.std.specs.Prelude.{◌≡◌, ◌++◌, ℕ, List, OnOk, codes, string_bytes};
-ghost use Rattle.sarif_explain.specs.Internal.Lines.{line_of};
+ghost use Rattle.std.specs.Prelude.{◌≡◌, ◌++◌, ℕ, List, IfOk, OnOk, codes, option_map, string_bytes};
+ghost use Rattle.sarif_explain.specs.Internal.Lines.{file_line, line_of, system_line};
 
 use crate::advice::advice_on;
 use crate::form::form_of;
-use crate::hint::{Hint, hint_of};
-use crate::lines::{push_line, push_number, shorten};
+use crate::hint::{Hint, hint_of, hint_of_form};
+use crate::lines::{push_file, push_line, push_number, shorten};
 use crate::mismatch::Mismatch;
 use crate::wanted::Wanted;
 use crate::whole::{mismatch_of, wanted_by};
 use json_parts::without_mark;
-use sarif_model::{Cause, Fault, MergeFault};
+use sarif_model::{At, Cause, Fault, MergeFault};
 use serde_json::{Error, Value};
 use std::alloc::{AllocError, Global};
 
@@ -28,11 +28,10 @@ pub struct FaultSource<'a> {
 }
 
 /// Adds what was found: the text of the value, or that there is nothing.
-fn push_found(
-    alloc: Global,
-    lines: &mut String,
-    mismatch: &Mismatch<'_>,
-) -> Result<(), AllocError> {
+fn push_found(alloc: Global, lines: &mut String, mismatch: &Mismatch<'_>) -> Result<(), AllocError>
+    ensures { OnOk result ((found : List ℕ)
+        × (string_bytes lines.new ≡ string_bytes lines.old ++ line_of (codes "found") found)) }
+{
     match mismatch.missing {
         Some(_) => push_line(alloc, lines, "found", "nothing"),
         None => {
@@ -57,11 +56,10 @@ pub(crate) fn push_sentence(
 }
 
 /// Adds what is expected, with the member's name if the member is missing.
-fn push_wanted(
-    alloc: Global,
-    lines: &mut String,
-    mismatch: &Mismatch<'_>,
-) -> Result<(), AllocError> {
+fn push_wanted(alloc: Global, lines: &mut String, mismatch: &Mismatch<'_>) -> Result<(), AllocError>
+    ensures { OnOk result ((sentence : List ℕ)
+        × (string_bytes lines.new ≡ string_bytes lines.old ++ line_of (codes "wanted") sentence)) }
+{
     let wanted = mismatch.wanted;
     match mismatch.missing {
         Some(name) => {
@@ -77,10 +75,37 @@ fn push_mismatch(
     alloc: Global,
     lines: &mut String,
     mismatch: &Mismatch<'_>,
-) -> Result<(), AllocError> {
+) -> Result<(), AllocError>
+    ensures { OnOk result ((found sentence : List ℕ)
+        × (string_bytes lines.new ≡ string_bytes lines.old
+        ++ (line_of (codes "where") (string_bytes mismatch.now.place.pointer)
+        ++ (line_of (codes "found") found ++ line_of (codes "wanted") sentence)))) }
+{
     push_line(alloc, lines, "where", mismatch.place.pointer.as_str())?;
     push_found(alloc, lines, mismatch)?;
     push_wanted(alloc, lines, mismatch)
+}
+
+/// Adds the position of a JSON error, and the form of the file, if it is known. Returns what the advice depends on.
+fn push_position(
+    alloc: Global,
+    lines: &mut String,
+    at: At,
+    error: &Error,
+    bytes: &[u8],
+) -> Result<Hint, AllocError>
+    ensures { OnOk result ((spot : List ℕ)
+        × (string_bytes lines.new ≡ string_bytes lines.old ++ spot)) }
+{
+    push_number(alloc, lines, "line", error.line())?;
+    push_number(alloc, lines, "column", error.column())?;
+    match form_of(alloc, bytes)? {
+        Some(form) => {
+            push_line(alloc, lines, "found", form.name())?;
+            Ok(hint_of_form(at, form))
+        }
+        None => Ok(Hint::None),
+    }
 }
 
 /// Adds the position of a JSON error, if that is the error, the form of the file, if it is known, and what is expected.
@@ -91,19 +116,19 @@ fn push_stop(
     fault: &MergeFault,
     error: &Error,
     bytes: &[u8],
-) -> Result<Hint, AllocError> {
+) -> Result<Hint, AllocError>
+    ensures { OnOk result ((spot sentence : List ℕ)
+        × (string_bytes lines.new ≡ string_bytes lines.old
+        ++ (spot ++ line_of (codes "wanted") sentence))) }
+{
     if error.is_memory() {
         return Err(AllocError);
     }
-    let mut hint = Hint::None;
-    if fault.cause == Cause::Of(Fault::NotJson) {
-        push_number(alloc, lines, "line", error.line())?;
-        push_number(alloc, lines, "column", error.column())?;
-        if let Some(form) = form_of(alloc, bytes)? {
-            push_line(alloc, lines, "found", form.name())?;
-            hint = Hint::Form(form);
-        }
+    if fault.cause != Cause::Of(Fault::NotJson) {
+        push_sentence(alloc, lines, wanted_by(fault))?;
+        return Ok(Hint::None);
     }
+    let hint = push_position(alloc, lines, fault.at, error, bytes)?;
     push_sentence(alloc, lines, wanted_by(fault))?;
     Ok(hint)
 }
@@ -115,7 +140,11 @@ fn push_unread(
     lines: &mut String,
     fault: &MergeFault,
     is_folder: bool,
-) -> Result<Hint, AllocError> {
+) -> Result<Hint, AllocError>
+    ensures { OnOk result ((spot sentence : List ℕ)
+        × (string_bytes lines.new ≡ string_bytes lines.old
+        ++ (spot ++ line_of (codes "wanted") sentence))) }
+{
     let is_folder = is_folder && fault.cause == Cause::ReadFailed;
     if is_folder {
         push_line(alloc, lines, "found", "a folder")?;
@@ -130,7 +159,11 @@ fn push_spot(
     lines: &mut String,
     fault: &MergeFault,
     source: &FaultSource<'_>,
-) -> Result<Hint, AllocError> {
+) -> Result<Hint, AllocError>
+    ensures { OnOk result ((spot sentence : List ℕ)
+        × (string_bytes lines.new ≡ string_bytes lines.old
+        ++ (spot ++ line_of (codes "wanted") sentence))) }
+{
     let Cause::Of(wrong) = fault.cause else {
         return push_unread(alloc, lines, fault, source.is_folder);
     };
@@ -150,7 +183,10 @@ fn push_system(
     lines: &mut String,
     cause: Cause,
     system: Option<&str>,
-) -> Result<(), AllocError> {
+) -> Result<(), AllocError>
+    ensures { OnOk result (string_bytes lines.new ≡ string_bytes lines.old
+        ++ system_line cause (option_map (λ message. message.now) system.entry)) }
+{
     match (cause, system) {
         (Cause::ReadFailed | Cause::WriteFailed, Some(said)) => {
             push_line(alloc, lines, "system", said)
@@ -168,11 +204,15 @@ pub fn explanation(
     alloc: Global,
     fault: &MergeFault,
     source: &FaultSource<'_>,
-) -> Result<String, AllocError> {
+) -> Result<String, AllocError>
+    ensures { IfOk result (λ s. (spot wanted advice : List ℕ)
+        × (string_bytes s ≡ file_line source.now.file.now
+        ++ (spot ++ (line_of (codes "wanted") wanted
+        ++ (system_line fault.now.cause (option_map (λ message. message.now) source.now.system)
+        ++ line_of (codes "advice") advice))))) }
+{
     let mut lines = String::new(alloc);
-    if !source.file.is_empty() {
-        push_line(alloc, &mut lines, "file", source.file)?;
-    }
+    push_file(alloc, &mut lines, source.file)?;
     let hint = push_spot(alloc, &mut lines, fault, source)?;
     push_system(alloc, &mut lines, fault.cause, source.system)?;
     let advice = advice_on(fault, hint);

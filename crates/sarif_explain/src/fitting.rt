@@ -61,12 +61,19 @@ impl Wanted {
         )
     }
 
-    /// Returns whether the value is as expected. For arrays and maps only the type is checked, not the elements.
-    /// If a value is wrong only because of its position, for example past a limit, no value is expected.
+    /// Returns whether the value is as expected. For arrays and maps of a log or of a suppression file only the type is
+    /// checked, not the elements. If a value is wrong only because of its position, for example past a limit, no value
+    /// is expected.
     pub(crate) fn fits(self, value: &Value) -> bool {
-        if self == Wanted::Success {
-            return is_no_failure(value);
+        match self {
+            Wanted::Success => is_no_failure(value),
+            Wanted::Policy(wanted) => wanted.fits(value),
+            _ => self.fits_log(value),
         }
+    }
+
+    /// Returns whether the value of a log or of a suppression file is as expected.
+    fn fits_log(self, value: &Value) -> bool {
         match value {
             Value::Null => matches!(self, Wanted::Runs | Wanted::TextOrNull),
             Value::Bool(_) => false,

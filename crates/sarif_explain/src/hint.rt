@@ -1,7 +1,7 @@
 //! What the advice depends on, besides the error.
 use crate::form::Form;
 use crate::place::find;
-use sarif_model::Fault;
+use sarif_model::{At, Fault, Source};
 use serde_json::Value;
 
 /// What was found in a source that the advice depends on.
@@ -13,8 +13,10 @@ pub(crate) enum Hint {
     Missing,
     /// The log is a merged log.
     MergedLog,
-    /// The log is a suppression file.
+    /// The log or the policy is a suppression file.
     SuppressionFile,
+    /// The log is a policy.
+    Policy,
     /// The log has no runs, so it is another file.
     OtherJson,
     /// The file is not JSON, and has this form.
@@ -38,14 +40,29 @@ fn is_suppression_file(value: &Value) -> bool {
     matches!(value.get("suppressions"), Some(Value::Array(_)))
 }
 
+/// Returns whether a value has the list of a policy.
+fn is_policy(value: &Value) -> bool {
+    matches!(value.get("conditions"), Some(Value::Array(_)))
+}
+
 /// Returns what the advice on this error in a source with this value depends on. If `is_missing` is set, a member is
 /// missing.
 pub(crate) fn hint_of(value: &Value, fault: Fault, is_missing: bool) -> Hint {
     match fault {
         Fault::AbsentInput if is_merged_log(value) => Hint::MergedLog,
-        Fault::NotLog if is_suppression_file(value) => Hint::SuppressionFile,
+        Fault::NotLog | Fault::NotPolicy if is_suppression_file(value) => Hint::SuppressionFile,
+        Fault::NotLog if is_policy(value) => Hint::Policy,
         Fault::NotLog if value.get("runs").is_none() => Hint::OtherJson,
         _ if is_missing => Hint::Missing,
         _ => Hint::None,
+    }
+}
+
+/// Returns what the advice on a source that is not JSON depends on. No analyser writes a policy, so there its form says
+/// nothing.
+pub(crate) fn hint_of_form(at: At, form: Form) -> Hint {
+    match at {
+        At::Whole(Source::Policy) => Hint::None,
+        _ => Hint::Form(form),
     }
 }

@@ -17,6 +17,8 @@ mod output;
 mod past_table;
 mod place;
 mod pointer;
+mod policy;
+mod policy_wanted;
 mod run;
 mod single;
 mod wanted;

@@ -27,6 +27,17 @@ pub(crate) fn push_line(
     Ok(())
 }
 
+/// Adds the file, if it has a name.
+pub(crate) fn push_file(alloc: Global, lines: &mut String, file: &str) -> Result<(), AllocError>
+    ensures { OnOk result
+        (string_bytes lines.new ≡ string_bytes lines.old ++ said.file_line file.now) }
+{
+    if file.is_empty() {
+        return Ok(());
+    }
+    push_line(alloc, lines, "file", file)
+}
+
 /// Adds a line with a number.
 pub(crate) fn push_number(
     alloc: Global,

@@ -1,5 +1,6 @@
 //! What is expected instead of the invalid value: the table of sentences.
 use crate::checks::{CONDITIONS, FIFTH_NAMES, FIRST_NAMES, FOURTH_NAMES, SECOND_NAMES};
+use crate::policy_wanted::PolicyWanted;
 use json_parts::MAX_DEPTH;
 use sarif_model::{
     FIRST_DAY, LAST_DAY, MOST_BYTES, MOST_ENTRIES, MOST_RESULTS, MOST_RUNS, MOST_SOURCES,
@@ -51,6 +52,8 @@ pub(crate) enum Wanted {
     Limit,
     Condition,
     Today,
+    /// Of a policy.
+    Policy(PolicyWanted),
     HitPlace,
     HitRule,
     Section,
@@ -137,6 +140,7 @@ impl Wanted {
             | Wanted::Index
             | Wanted::Day
             | Wanted::Limit
+            | Wanted::Policy(_)
             | Wanted::FewRuns
             | Wanted::FewResults
             | Wanted::FewEntries
@@ -155,6 +159,7 @@ impl fmt::Display for Wanted {
                 "a date as the integer YYYYMMDD, from {FIRST_DAY} to {LAST_DAY}"
             ),
             Wanted::Limit => write!(f, "an integer from 1 to {}", u32::MAX),
+            Wanted::Policy(wanted) => write!(f, "{wanted}"),
             Wanted::FewRuns => write!(
                 f,
                 "at most {MOST_SOURCES} logs and {MOST_SOURCES} baselines, with at most \

@@ -3,6 +3,8 @@ use crate::checks::{file_checks, log_checks};
 use crate::entry::mismatch_of_entry;
 use crate::mismatch::{Found, Mismatch, mismatch_in};
 use crate::place::JsonPlace;
+use crate::policy::{mismatch_in_policy, mismatch_of_policy};
+use crate::policy_wanted::PolicyWanted;
 use crate::run::mismatch_of_run;
 use crate::single::mismatch_of_result;
 use crate::wanted::Wanted;
@@ -17,6 +19,7 @@ fn wanted_at(at: At, fault: Fault) -> Wanted {
         Fault::NotLog => Wanted::Log,
         Fault::WrongVersion => match at {
             At::Whole(Source::Suppress) => Wanted::FileVersion,
+            At::Whole(Source::Policy) => Wanted::Policy(PolicyWanted::Version),
             _ => Wanted::LogVersion,
         },
         Fault::BadRun => Wanted::Run,
@@ -36,16 +39,17 @@ fn wanted_at(at: At, fault: Fault) -> Wanted {
         Fault::BadHunk => Wanted::HunkLine,
         Fault::BadHeader => Wanted::FileName,
         Fault::Submodule => Wanted::SubmoduleFiles,
-        Fault::NotPolicy
-        | Fault::NoCondition
-        | Fault::BadCondition
-        | Fault::BadFilter
-        | Fault::EmptyFilter
-        | Fault::SameName
-        | Fault::NeedsDiff => Wanted::Condition,
+        Fault::NotPolicy => Wanted::Policy(PolicyWanted::File),
+        Fault::NoCondition => Wanted::Policy(PolicyWanted::SomeConditions),
+        Fault::BadCondition => Wanted::Policy(PolicyWanted::Apart),
+        Fault::BadFilter => Wanted::Policy(PolicyWanted::Filter),
+        Fault::EmptyFilter => Wanted::Condition,
+        Fault::SameName => Wanted::Policy(PolicyWanted::OtherName),
+        Fault::NeedsDiff => Wanted::Policy(PolicyWanted::Change),
         Fault::TooMany => match at {
             At::Line(_) => Wanted::FewSections,
             At::Whole(Source::Suppress) => Wanted::FewEntries,
+            At::Whole(Source::Policy) => Wanted::Policy(PolicyWanted::FewConditions),
             At::Run(_, _) => Wanted::FewResults,
             _ => Wanted::FewRuns,
         },
@@ -85,6 +89,7 @@ fn or_all<'a>(found: Option<Mismatch<'a>>, place: JsonPlace<'a>, wanted: Wanted)
 fn mismatch_of_source<'a>(alloc: Global, root: &JsonPlace<'a>, at: At, fault: Fault) -> Found<'a> {
     match at {
         At::Whole(Source::Suppress) => mismatch_in(alloc, root, file_checks(fault)),
+        At::Whole(Source::Policy) => mismatch_of_policy(alloc, root, fault),
         _ => mismatch_in(alloc, root, log_checks(fault)),
     }
 }
@@ -131,9 +136,16 @@ fn mismatch_in_file<'a>(
     }
 }
 
-/// Whether the source is the suppression file, which isn't stripped.
+/// Returns whether the source is the suppression file or the policy, which aren't stripped.
 fn is_file(at: At) -> bool {
-    matches!(at, At::Whole(Source::Suppress) | At::Entry(_))
+    matches!(
+        at,
+        At::Whole(Source::Suppress | Source::Policy)
+            | At::Entry(_)
+            | At::Condition(_)
+            | At::Only(_, _)
+            | At::Except(_, _)
+    )
 }
 
 /// Returns the error in the source with this value.
@@ -145,19 +157,15 @@ pub(crate) fn mismatch_of<'a>(
 ) -> Result<Mismatch<'a>, AllocError> {
     let root = JsonPlace::root(alloc, value, !is_file(at));
     match at {
-        At::Nowhere
-        | At::Whole(_)
-        | At::Condition(_)
-        | At::Only(_, _)
-        | At::Except(_, _)
-        | At::Line(_)
-        | At::Place(_)
-        | At::Rule(_) => {
+        At::Nowhere | At::Whole(_) | At::Line(_) | At::Place(_) | At::Rule(_) => {
             let found = mismatch_of_source(alloc, &root, at, fault)?;
             Ok(or_all(found, root, wanted_at(at, fault)))
         }
         At::Run(_, run) => mismatch_in_log(alloc, root, run, None, at, fault),
         At::Single(_, run, single) => mismatch_in_log(alloc, root, run, Some(single), at, fault),
         At::Entry(entry) => mismatch_in_file(alloc, root, entry, fault),
+        At::Condition(number) | At::Only(number, _) | At::Except(number, _) => {
+            mismatch_in_policy(alloc, root, number, at, fault, wanted_at(at, fault))
+        }
     }
 }

@@ -5,6 +5,7 @@ mod files;
 mod forms;
 mod logs;
 mod outputs;
+mod policies;
 mod results;
 mod runs;
 

@@ -15,7 +15,9 @@ use Rattle.sarif_model.specs.Run.{runs_of}
 use Rattle.sarif_model.specs.Level.{is_at_least}
 use Rattle.sarif_options.specs.declared.policy.Policy.{Policy}
 use Rattle.sarif_options.specs.Policy.{is_listed}
+use Rattle.sarif_counts.specs.declared.gate_verdict.Impact.TheVariants as impacts
 use Rattle.sarif_counts.specs.Hits.{count_if, hits_of}
+use Rattle.sarif_counts.specs.Impacts.{is_hit}
 use Rattle.sarif_counts.specs.Tally.{same_side}
 use Rattle.sarif_counts.specs.CountOf.{carries, count_in, count_of, results_in, suppresses, suppressions_in}
 use Rattle.sarif_model.specs.Run.{is_text}
@@ -37,10 +39,14 @@ carried s l result =
     ap (λ b. b && (is_text (level_name l) (option_and_then as_str (get (codes "level") result)) && same_side false (suppresses (suppressions_in result)))) state
     ∙ ap (λ b. is_state s (state_in result) && (b && same_side false (suppresses (suppressions_in result)))) level
 
+hit_if : (hit : Bool) → is_hit (if hit then impacts.Hit else impacts.None) ≡ hit
+hit_if true = refl
+hit_if false = refl
+
 pub finding_hit : (reporting : Reporting) (run result : Data) (l : Level) (s : State)
-    → (finding_of reporting run result l s).hit ≡ is_at_least reporting.policy.fail_on l
+    → is_hit (finding_of reporting run result l s).impact ≡ is_at_least reporting.policy.fail_on l
 unfolding finding_of
-finding_hit reporting run result l s = refl
+finding_hit reporting run result l s = hit_if (is_at_least reporting.policy.fail_on l)
 
 pub elements_there : (o : Option Items) → elements_or_none o ≡ elements (items_or_none o)
 elements_there None = refl
@@ -127,9 +133,9 @@ shown_hit Hits true = refl
 shown_hit Hits false = refl
 shown_hit All hit = refl
 
-pub hits_reported : (reporting : Reporting) (log : Data) → count_by (λ f. f.hit) (reported_of reporting log) ≡ hits_of (count_of (runs_of log)) reporting.policy
+pub hits_reported : (reporting : Reporting) (log : Data) → count_by (λ f. is_hit f.impact) (reported_of reporting log) ≡ hits_of (count_of (runs_of log)) reporting.policy
 hits_reported reporting log =
-    counted reporting reporting.policy.fail_on (λ f. f.hit)
+    counted reporting reporting.policy.fail_on (λ f. is_hit f.impact)
     (λ run result l s. ap (λ b. is_among reporting.show (is_at_least reporting.policy.fail_on l) && b) (finding_hit reporting run result l s)
     ∙ shown_hit reporting.show (is_at_least reporting.policy.fail_on l)) log
 

@@ -8,7 +8,6 @@ use Rattle.sarif_model.specs.declared.first_location.FirstLocation.{FirstLocatio
 use Rattle.sarif_model.specs.declared.kinds.Level.{Level}
 use Rattle.sarif_model.specs.declared.kinds.State.{State}
 use Rattle.sarif_model.specs.declared.references.RuleReference.{RuleReference}
-use Rattle.sarif_model.specs.Level.{is_at_least}
 use Rattle.sarif_model.specs.Members.{text_in}
 use Rattle.sarif_model.specs.Driver.{tool_name}
 use Rattle.sarif_findings.specs.declared.code.Code.{Code}
@@ -20,7 +19,7 @@ use Rattle.sarif_findings.specs.Links.{unlinked}
 use Rattle.sarif_findings.specs.Lookup.{artifact_uri, component_by, elements_in, position_number, rule_by}
 use Rattle.sarif_findings.specs.Message.{component_string, descriptor_string, strings_by}
 use Rattle.sarif_findings.specs.Placeholders.{filled}
-use Rattle.sarif_findings.specs.Reported.{is_exact_path, link_of, only_with, or_no_message, shown_path}
+use Rattle.sarif_findings.specs.Reported.{impact_at, is_exact_path, link_of, only_with, or_no_message, shown_path}
 use Rattle.sarif_findings.specs.RuleName.{name_in, shown_name}
 use Rattle.sarif_findings.specs.Shown.{shown}
 
@@ -140,5 +139,5 @@ finding_at reporting run told level state = record {
   help = help_at run told.rule;
   rule_name = rule_name_at run told.rule;
   code = code_at reporting run told;
-  hit = is_at_least reporting.policy.fail_on level;
+  impact = impact_at reporting.policy level;
 }

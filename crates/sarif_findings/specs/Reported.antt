@@ -11,7 +11,10 @@ use Rattle.sarif_model.specs.State.{state_named}
 use Rattle.sarif_model.specs.Driver.{tool_name}
 use Rattle.sarif_model.specs.Level.{is_at_least}
 use Rattle.sarif_model.specs.Members.{text_in, none_if_empty}
+use Rattle.sarif_options.specs.declared.policy.Policy.{Policy}
 use Rattle.sarif_options.specs.Policy.{is_listed}
+use Rattle.sarif_counts.specs.declared.gate_verdict.Impact.{Impact}
+use Rattle.sarif_counts.specs.declared.gate_verdict.Impact.TheVariants as impacts
 use Rattle.sarif_counts.specs.CountOf.{suppressions_in, suppresses}
 use Rattle.sarif_links.specs.Address.{is_address}
 use Rattle.sarif_findings.specs.declared.code.Code.{Code}
@@ -92,6 +95,10 @@ code_in reporting run result =
     code_by (snippet_in (codes "region") result) (snippet_in (codes "contextRegion") result)
     (option_and_then position_number (context_number result)) (line_in reporting run result)
 
+-- what a result of this level does to the gate
+abbrev pub impact_at : Policy → Level → Impact
+impact_at policy level = if is_at_least policy.fail_on level then impacts.Hit else impacts.None
+
 -- the finding of a result of this run
 unfoldable pub finding_of : Reporting → Data → Data → Level → State → Finding
 finding_of reporting run result level state = record {
@@ -107,7 +114,7 @@ finding_of reporting run result level state = record {
   help = help_in run result;
   rule_name = rule_name_in run result;
   code = code_in reporting run result;
-  hit = is_at_least reporting.policy.fail_on level;
+  impact = impact_at reporting.policy level;
 }
 
 -- whether a reported result is shown that is a hit, or is none

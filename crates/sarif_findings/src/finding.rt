@@ -1,5 +1,6 @@
 //! What a report says about a result.
 use crate::code::Code;
+use sarif_counts::Impact;
 use sarif_model::{Level, State, Text};
 
 /// What a report says about a result of the merged log. Strings are shown strings (see `shown`).
@@ -30,6 +31,6 @@ pub struct Finding {
     pub rule_name: Option<Text>,
     /// Some lines of its code, if a snippet of its first location has any.
     pub code: Option<Code>,
-    /// Whether the gate counts it: its level is at least that of the policy.
-    pub hit: bool,
+    /// What it does to the gate: it is a hit if its level is at least that of the policy.
+    pub impact: Impact,
 }

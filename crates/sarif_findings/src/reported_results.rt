@@ -17,8 +17,10 @@ use crate::snippets::code_of;
 use crate::spot::{ShownPlace, spot_of};
 use crate::subject::Subject;
 use crate::told_result::ToldResult;
+use sarif_counts::Impact;
 use sarif_links::is_address;
 use sarif_model::{Level, State, Text};
+use sarif_options::Policy;
 use serde_json::Value;
 use std::alloc::{AllocError, Global};
 
@@ -60,6 +62,17 @@ fn message_in(alloc: Global, subject: &Subject<'_>) -> Result<Text, AllocError>
     Text::from_string(message)
 }
 
+/// What a result of this level does to the gate.
+fn impact_at(policy: &Policy, level: Level) -> Impact
+    ensures { result ≡ said.impact_at policy.now level }
+{
+    if level.is_at_least(policy.fail_on) {
+        Impact::Hit
+    } else {
+        Impact::None
+    }
+}
+
 /// Returns the finding of a result of a run that has this level and this baseline state. It doesn't read the run's
 /// results. Returns `AllocError` if memory runs out.
 #[tactic(auto, unfolding(crate::specs::Located::finding_at))]
@@ -87,7 +100,7 @@ pub fn finding_of(
         column,
     } = spot_of(alloc, reporting, run, &told.location)?;
     let code = code_of(alloc, &told.snippets, line)?;
-    let hit = level.is_at_least(reporting.policy.fail_on);
+    let impact = impact_at(&reporting.policy, level);
     Ok(Finding {
         tool,
         rule,
@@ -101,6 +114,6 @@ pub fn finding_of(
         help,
         rule_name,
         code,
-        hit,
+        impact,
     })
 }

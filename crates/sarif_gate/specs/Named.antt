@@ -1,5 +1,5 @@
 -- What a request names: its sources and its outputs.
-use Rattle.std.specs.Prelude.{◌≡◌, ◌&&◌, ◌||◌, ℕ, List, None, Bool, true, false, map, option_map, codes, bytes_eq}
+use Rattle.std.specs.Prelude.{◌≡◌, ◌&&◌, ◌||◌, ℕ, List, Bool, true, false, map, option_map, codes, bytes_eq}
 use Rattle.std.specs.List.{list_any}
 use Rattle.sarif_program.specs.declared.writers.Writers.{Writers}
 use Rattle.sarif_reports.specs.Report.{is_for_merges}
@@ -48,7 +48,7 @@ is_error (Output output) = false
 is_error (Error error) = true
 
 -- each source and each output is what the request names, in the place where it names it; `-` is a standard stream as
--- a log, as the diff and as an output, and a file as a baseline and as the suppression file; there is no policy
+-- a log, as the diff and as an output, and a file as a baseline, as the suppression file and as the policy
 pub record AreNamed {R I F D O E : Type 0} (request : Request)
     (readers : Readers (Kept (Input R I F D)))
     (writers : Writers (Kept (Target R O F D)) (Console O E) (Kept (Target R O F D)))
@@ -57,7 +57,7 @@ pub record AreNamed {R I F D O E : Type 0} (request : Request)
   pub baselines : map source_channel readers.baselines.items ≡ map Named request.baselines.items
   pub suppressions : option_map source_channel readers.suppressions
       ≡ option_map Named request.suppress
-  pub policy : readers.policy ≡ None
+  pub policy : option_map source_channel readers.policy ≡ option_map Named request.policy
   pub diff : option_map source_channel readers.diff ≡ option_map channel_named request.diff
   pub out : output_channel writers.out ≡ channel_named request.out
   pub reports : map report_channel writers.reports.items ≡ map report_named (outputs_in request)

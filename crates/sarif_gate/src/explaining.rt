@@ -70,7 +70,7 @@ impl EndedRun<'_, '_> {
             Source::Log(number) => self.request.logs.get(number as usize),
             Source::Baseline(number) => self.request.baselines.get(number as usize),
             Source::Suppress => self.request.suppress.as_ref(),
-            Source::Policy => None,
+            Source::Policy => self.request.policy.as_ref(),
             Source::Diff => self.request.diff.as_ref(),
             Source::Output => Some(&self.request.out),
             Source::Known => self.name_for(Report::Known),
@@ -126,7 +126,7 @@ impl EndedRun<'_, '_> {
                 of_kept(alloc, fault, name, readers.baselines.get(number as usize))
             }
             Source::Suppress => of_kept(alloc, fault, name, readers.suppressions.as_ref()),
-            Source::Policy => of_source(alloc, fault, "", &[], None),
+            Source::Policy => of_kept(alloc, fault, name, readers.policy.as_ref()),
             Source::Diff => of_diff(alloc, fault, name, readers.diff.as_ref()),
             Source::Output => of_written(alloc, fault, name, Some(&self.writers.out)),
             Source::Known => of_output(alloc, fault, name),

@@ -1,5 +1,5 @@
 //! A request, together with the sources and the outputs that it names.
-ghost use Rattle.std.specs.Prelude.{◌≡◌, None, map, option_map};
+ghost use Rattle.std.specs.Prelude.{◌≡◌, map, option_map};
 ghost use Rattle.sarif_streams.specs.Counted.{failed_calls, inner_of};
 ghost use Rattle.sarif_streams.specs.Failing.{failed_calls_in};
 ghost use Rattle.sarif_streams.specs.Named.{Named, channel_named};
@@ -30,7 +30,8 @@ pub struct Job<'a> {
         ≡ map Named «request».now.baselines.items },
     ghost suppressions: { option_map source_channel readers.suppressions
         ≡ option_map Named «request».now.suppress },
-    ghost policy: { readers.policy ≡ None },
+    ghost policy: { option_map source_channel readers.policy
+        ≡ option_map Named «request».now.policy },
     ghost diff: { option_map source_channel readers.diff
         ≡ option_map channel_named «request».now.diff },
     ghost out: { output_channel writers.out ≡ channel_named «request».now.out },

@@ -1,5 +1,5 @@
 //! The sources that a request names.
-ghost use Rattle.std.specs.Prelude.{◌≡◌, None, IfOk, map, option_map};
+ghost use Rattle.std.specs.Prelude.{◌≡◌, IfOk, map, option_map};
 ghost use Rattle.sarif_streams.specs.Counted.{failed_calls};
 ghost use Rattle.sarif_streams.specs.Failing.{failed_calls_in};
 ghost use Rattle.sarif_streams.specs.Named.{Named, channel_named, input_channel};
@@ -28,7 +28,8 @@ pub fn sources_of<'a>(
         ≡ map Named «request».now.baselines.items) }
     ensures suppressions { IfOk result (λ sources. option_map source_channel sources.suppressions
         ≡ option_map Named «request».now.suppress) }
-    ensures policy { IfOk result (λ sources. sources.policy ≡ None) }
+    ensures policy { IfOk result (λ sources. option_map source_channel sources.policy
+        ≡ option_map Named «request».now.policy) }
     ensures diff { IfOk result (λ sources. option_map source_channel sources.diff
         ≡ option_map channel_named «request».now.diff) }
     ensures fresh { IfOk result (λ sources. (failed_calls_in sources.logs.items ≡ 0)
@@ -39,10 +40,8 @@ pub fn sources_of<'a>(
 {
     let logs = logs_of(rt, &request.logs, request.explain)?;
     let baselines = baselines_of(rt, &request.baselines, request.explain)?;
-    let suppressions = match &request.suppress {
-        Some(name) => Some(file_of(rt, name.as_str(), request.explain)),
-        None => None,
-    };
+    let suppressions = file_if(rt, &request.suppress, request.explain);
+    let policy = file_if(rt, &request.policy, request.explain);
     let diff = match &request.diff {
         Some(name) => Some(stream_of(rt, name.as_str(), request.explain)),
         None => None,
@@ -51,7 +50,7 @@ pub fn sources_of<'a>(
         logs,
         baselines,
         suppressions,
-        policy: None,
+        policy,
         diff,
     })
 }
@@ -95,6 +94,21 @@ fn stream_of<'a>(rt: &'a HostRuntime, name: &'a str, is_kept: bool) -> Counted<P
     ensures fresh { failed_calls result ≡ 0 }
 {
     fresh_source(rt, Input::log(rt, rt.stdin(), name), is_kept)
+}
+
+/// Returns the file of a name, if there is one.
+fn file_if<'a>(
+    rt: &'a HostRuntime,
+    name: &'a Option<Text>,
+    is_kept: bool,
+) -> Option<Counted<ProgramSource<'a>>>
+    ensures name { option_map source_channel result ≡ option_map Named name.now }
+    ensures fresh { failed_calls_if result ≡ 0 }
+{
+    match name {
+        Some(name) => Some(file_of(rt, name.as_str(), is_kept)),
+        None => None,
+    }
 }
 
 /// The file of a name.

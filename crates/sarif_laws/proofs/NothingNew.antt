@@ -54,7 +54,7 @@ use Rattle.sarif_merge.specs.MergedLog.{current_of, file_given, runs_written, wr
 use Rattle.sarif_merge.specs.OwnResult.{IsResult, baseline_of, number_among_all, partner_at, run_at, admitted_at, written_run}
 use Rattle.sarif_merge.proofs.OwnResult.{faultless_runs, own_result, runs_same}
 use Rattle.sarif_merge.proofs.ReadObjects.{objects_in}
-use Rattle.sarif_upkeep.specs.Heard.{heard}
+use Rattle.sarif_heard.specs.Heard.{heard}
 use Rattle.sarif_upkeep.specs.Known.{adopts, chosen_now, known_before, known_now, remembered, runs_known}
 use Rattle.sarif_upkeep.proofs.Taken.{known_fewer}
 use Rattle.sarif_laws.specs.Adopting.{HasNothingNew, IsAbsentOf, IsNextWith, as_known, of_tool, results_kept, results_unmatched}

@@ -33,7 +33,7 @@ use Rattle.sarif_log.specs.MergedRuns.{annotated_items, bare, merged_run, merged
 use Rattle.sarif_merge.specs.Life.{merge_in}
 use Rattle.sarif_merge.specs.MergedLog.{current_of, file_given, limited_of, runs_written, written_inputs}
 use Rattle.sarif_merge.specs.OwnResult.{baseline_of}
-use Rattle.sarif_upkeep.specs.Heard.{heard}
+use Rattle.sarif_heard.specs.Heard.{heard}
 use Rattle.sarif_upkeep.specs.Renewed.{how_of, kept_in, renewal_faults, rules_after, text_faults, values_added}
 use Rattle.sarif_accept.specs.Adding.{How, added_for, may_hit}
 use Rattle.sarif_accept.specs.Keeping.{is_kept}

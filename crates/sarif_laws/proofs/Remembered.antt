@@ -44,7 +44,7 @@ use Rattle.sarif_known.proofs.Plain.{AreItemsPlain, AreMembersPlain, IsPlain}
 use Rattle.sarif_known.proofs.RunBack.{known_again}
 use Rattle.sarif_merge.specs.Life.{merge_in}
 use Rattle.sarif_merge.proofs.OwnResult.{faultless_runs}
-use Rattle.sarif_upkeep.specs.Heard.{heard}
+use Rattle.sarif_heard.specs.Heard.{heard}
 use Rattle.sarif_upkeep.specs.Known.{adopts, known_before, known_now, runs_known}
 use Rattle.sarif_log.proofs.Limits.{records_unadmitted}
 use Rattle.sarif_merge.specs.MergedLog.{current_of, file_given}

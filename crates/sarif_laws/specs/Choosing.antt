@@ -15,7 +15,7 @@ use Rattle.sarif_accept.specs.Keeping.{is_kept}
 use Rattle.sarif_entries.specs.declared.entry.Entry.{Entry}
 use Rattle.sarif_entries.specs.Numbering.{numbered_from}
 use Rattle.sarif_runs.specs.Judging.{run_values}
-use Rattle.sarif_upkeep.specs.Heard.{heard}
+use Rattle.sarif_heard.specs.Heard.{heard}
 use Rattle.sarif_upkeep.specs.Merge.{Merge}
 use Rattle.sarif_upkeep.specs.Renewed.{entries_added, rules_after}
 use Rattle.sarif_log.specs.LogBy.{states_of}

@@ -15,7 +15,7 @@ use Rattle.sarif_entries.specs.Matching.{is_expired}
 use Rattle.sarif_entries.specs.Numbering.{numbered_from}
 use Rattle.sarif_suppress.specs.Suppressing.{is_unused}
 use Rattle.sarif_accept.specs.Keeping.{is_kept}
-use Rattle.sarif_upkeep.specs.Heard.{heard}
+use Rattle.sarif_heard.specs.Heard.{heard}
 use Rattle.sarif_laws.specs.NextMerge.{KeepsMatches, with_file}
 
 -- the entry is one of the file of these inputs, and matches no current result

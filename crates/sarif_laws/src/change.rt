@@ -46,14 +46,15 @@ pub fn a_diff_narrows_the_hits()
 {}
 
 /// A merge without errors and without a policy has none without its diff. If it has a policy, only the policy may have an
-/// error then: a condition on the change needs a diff. Without a diff, the gate counts the hits of all results.
+/// error then: a condition on the change needs a diff. Without a diff and without a policy, the gate counts the hits of all
+/// results.
 pub fn without_a_diff_all_hits_count()
     ensures faultless { (inputs : Inputs) → inputs.policy ≡ None
         → faults_of inputs ≡ [] → faults_of (without_diff inputs) ≡ [] }
     ensures needed { (inputs : Inputs) → faults_of inputs ≡ []
         → faults_of (without_diff inputs) ≡ faults_of_policy (policy_read false inputs.policy) }
     ensures log { (inputs : Inputs) (policy : Policy) → inputs.diff ≡ None
-        → log.merged_log inputs policy ≡ log_with (naming (log.copies_in_log inputs)
+        → inputs.policy ≡ None → log.merged_log inputs policy ≡ log_with (naming (log.copies_in_log inputs)
         (gate_of (count_of (log.runs_counted inputs)) policy (log.without_of inputs)
         (log.unused_counted inputs))) (log.runs_in_log inputs) }
     ensures hits { (inputs : Inputs) (policy : Policy) → inputs.diff ≡ None

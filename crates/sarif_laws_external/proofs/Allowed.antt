@@ -16,7 +16,7 @@ use Rattle.sarif_inputs.proofs.AllowedAlike.{all_alike, baseline_alike, current_
 use Rattle.sarif_prepare.specs.By.{logged_by}
 use Rattle.sarif_prepare.specs.Kept.{merge_of}
 use Rattle.sarif_merge.specs.Life.{merge_in}
-use Rattle.sarif_merge.specs.MergedLog.{change_given, file_given, merged_log, output_text}
+use Rattle.sarif_merge.specs.MergedLog.{change_given, conditions_given, file_given, merged_log, output_text}
 use Rattle.sarif_laws_external.specs.Fileless.{AreFileless, IsFileless}
 
 read_alike : (bytes : List ℕ) → IsFileless bytes → IsReadAlike bytes
@@ -44,7 +44,7 @@ baseline inputs fileless = baseline_alike inputs (all_read_alike inputs.baseline
 pub log_alike : (inputs : Inputs) (policy : Policy) → AreFileless inputs → merged_log (allowing true inputs) policy ≡ merged_log (allowing false inputs) policy
 log_alike inputs policy fileless =
     λ i. logged_by inputs.checks (file_given inputs) (current inputs fileless i) (baseline inputs fileless i)
-    (change_given inputs) policy
+    (change_given inputs) policy (conditions_given inputs)
 
 pub text_alike : (inputs : Inputs) (policy : Policy) → AreFileless inputs
     → output_text (allowing true inputs) policy ≡ output_text (allowing false inputs) policy

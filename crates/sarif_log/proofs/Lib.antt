@@ -4,6 +4,7 @@ pub mod LogText
 pub mod PartsCounted
 pub mod ResultCounts
 pub mod ResultTexts
+pub mod Ruled
 pub mod RunCounts
 pub mod RunResults
 pub mod RunTexts

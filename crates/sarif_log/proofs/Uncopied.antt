@@ -5,7 +5,7 @@ use Rattle.sarif_counts.specs.Hits.{Count}
 use Rattle.sarif_model.specs.declared.kinds.Level.{Level}
 use Rattle.sarif_model.specs.declared.kinds.State.{State}
 use Rattle.sarif_entries.specs.File.{File}
-use Rattle.sarif_findings.specs.declared.reporting.Reporting.{Reporting}
+use Rattle.sarif_findings.specs.declared.finding.Finding.{Finding}
 use Rattle.sarif_evidence.specs.declared.version.MatchingVersion.{MatchingVersion}
 use Rattle.sarif_options.specs.declared.policy.Policy.{Policy}
 use Rattle.sarif_runs.specs.Judging.{run_values}
@@ -24,6 +24,7 @@ use Rattle.sarif_log.specs.Internal.Written.{AreWritten, AreWrittenWith}
 use Rattle.sarif_log.specs.LogBy.{limited_records, runs_by, runs_without_results}
 use Rattle.sarif_scope.specs.Told.{facts_by}
 use Rattle.sarif_scope.specs.declared.gated.GatedChange.{GatedChange}
+use Rattle.sarif_conditions.specs.declared.facts.PolicyFacts.{PolicyFacts}
 
 written_all : (copies : Option CopyFlags) (current baseline : Side) (runs : List Data) → copies ≡ None → AreWritten current baseline runs
     → AreWrittenWith copies current baseline runs runs
@@ -34,38 +35,40 @@ no_places : (copies : Option CopyFlags) (current baseline : Side) → copies ≡
 no_places None current baseline is = refl
 no_places (Some flags) current baseline is = cc
 
-pub prepared_all : (v : MatchingVersion) (file : File) (now before : List Placed) (change : Option GatedChange) (policy : Policy) (asked : Option Reporting)
-    (prepared : Prepared)
-    → IsPrepared v file now before change policy asked prepared
-    → IsPreparedAs (runs_by v file now before) (runs_by v file now before) None change policy (runs_without_results (run_values now))
-    (unused_of file (limited_records file now)) asked prepared
-prepared_all v file now before change policy asked prepared h = record {
+pub prepared_all : (v : MatchingVersion) (file : File) (now before : List Placed) (change : Option GatedChange) (policy : Policy)
+    (ruling : Option PolicyFacts) (told : List Finding) (prepared : Prepared)
+    → IsPrepared v file now before change policy ruling told prepared
+    → IsPreparedAs (runs_by v file now before) (runs_by v file now before) None change policy ruling (runs_without_results (run_values now))
+    (unused_of file (limited_records file now)) told prepared
+prepared_all v file now before change policy ruling told prepared h = record {
   written = written_all prepared.copies prepared.current prepared.baseline (runs_by v file now before) h.copies h.written;
   named = no_places prepared.copies prepared.current prepared.baseline h.copies;
   without = h.without;
   unused = h.unused;
   change = h.change;
+  ruling = h.ruling;
   told = h.told;
 }
 
-merged_all : (v : MatchingVersion) (file : File) (now before : List Placed) (change : Option GatedChange) (policy : Policy) (asked : Option Reporting)
-    (merged : Merged)
-    → IsMergedAs (runs_by v file now before) (runs_by v file now before) None change policy (runs_without_results (run_values now))
-    (unused_of file (limited_records file now)) asked merged
-    → IsMergedBy v file now before change policy asked merged
-merged_all v file now before change policy asked merged h =
+merged_all : (v : MatchingVersion) (file : File) (now before : List Placed) (change : Option GatedChange) (policy : Policy)
+    (ruling : Option PolicyFacts) (told : List Finding) (merged : Merged)
+    → IsMergedAs (runs_by v file now before) (runs_by v file now before) None change policy ruling (runs_without_results (run_values now))
+    (unused_of file (limited_records file now)) told merged
+    → IsMergedBy v file now before change policy ruling told merged
+merged_all v file now before change policy ruling told merged h =
     record { written = record { log = h.written.log; gate = h.written.gate }; told = h.told }
 
 -- a merge of what was prepared without copies apart
 pub merged_by : (prepared : Prepared) (policy : Policy) (merged : Merged)
-    → ((runs counted : List Data) (places : Option (List CopyPlace)) (change : Option GatedChange) (bare idle : ℕ) (asked : Option Reporting)
-    → IsPreparedAs runs counted places change policy bare idle asked prepared → IsMergedAs runs counted places change policy bare idle asked merged)
-    → (v : MatchingVersion) (file : File) (now before : List Placed) (change : Option GatedChange) (asked : Option Reporting)
-    → IsPrepared v file now before change policy asked prepared → IsMergedBy v file now before change policy asked merged
-merged_by prepared policy merged made = λ v file now before change asked h.
-    merged_all v file now before change policy asked merged
-    (made (runs_by v file now before) (runs_by v file now before) None change (runs_without_results (run_values now))
-    (unused_of file (limited_records file now)) asked (prepared_all v file now before change policy asked prepared h))
+    → ((runs counted : List Data) (places : Option (List CopyPlace)) (change : Option GatedChange) (ruling : Option PolicyFacts) (bare idle : ℕ)
+    (told : List Finding)
+    → IsPreparedAs runs counted places change policy ruling bare idle told prepared → IsMergedAs runs counted places change policy ruling bare idle told merged)
+    → (v : MatchingVersion) (file : File) (now before : List Placed) (change : Option GatedChange) (ruling : Option PolicyFacts) (told : List Finding)
+    → IsPrepared v file now before change policy ruling told prepared → IsMergedBy v file now before change policy ruling told merged
+merged_by prepared policy merged made = λ v file now before change ruling told h.
+    merged_all v file now before change policy ruling told merged
+    (made (runs_by v file now before) (runs_by v file now before) None change ruling (runs_without_results (run_values now))
+    (unused_of file (limited_records file now)) told (prepared_all v file now before change policy ruling told prepared h))
 
 -- there is a mark for each result
 pub flags_are : (copies : Option CopyFlags) (current baseline : Side)
@@ -93,16 +96,18 @@ counts_same f g each = λ i s l b. each s l b i
 pub merged_as : (prepared : Prepared) (policy : Policy) (made : Merged)
     → ((runs counted : List Data) (change : Option GatedChange) → AreWrittenWith prepared.copies prepared.current prepared.baseline runs counted
     → prepared.change ≡ facts_by change policy counted
-    → IsLogWith runs counted (places_by prepared.copies prepared.current prepared.baseline) change policy prepared.without prepared.unused made)
+    → IsLogWith runs counted (places_by prepared.copies prepared.current prepared.baseline) change policy prepared.ruling prepared.without prepared.unused made)
     → made.findings.items ≡ prepared.findings.items
-    → (runs counted : List Data) (places : Option (List CopyPlace)) (change : Option GatedChange) (bare idle : ℕ) (asked : Option Reporting)
-    → IsPreparedAs runs counted places change policy bare idle asked prepared → IsMergedAs runs counted places change policy bare idle asked made
-merged_as prepared policy made log findings = λ runs counted places change bare idle asked h.
+    → (runs counted : List Data) (places : Option (List CopyPlace)) (change : Option GatedChange) (ruling : Option PolicyFacts) (bare idle : ℕ)
+    (told : List Finding)
+    → IsPreparedAs runs counted places change policy ruling bare idle told prepared → IsMergedAs runs counted places change policy ruling bare idle told made
+merged_as prepared policy made log findings = λ runs counted places change ruling bare idle told h.
     let made_so = log runs counted change h.written h.change in record {
       written =
-          subst (λ n. IsLogWith runs counted places change policy bare n made) h.unused
-          (subst (λ n. IsLogWith runs counted places change policy n prepared.unused made) h.without
-          (subst (λ ps. IsLogWith runs counted ps change policy prepared.without prepared.unused made) h.named made_so));
+          subst (λ n. IsLogWith runs counted places change policy ruling bare n made) h.unused
+          (subst (λ n. IsLogWith runs counted places change policy ruling n prepared.unused made) h.without
+          (subst (λ r. IsLogWith runs counted places change policy r prepared.without prepared.unused made) h.ruling
+          (subst (λ ps. IsLogWith runs counted ps change policy prepared.ruling prepared.without prepared.unused made) h.named made_so)));
       told = findings ∙ h.told;
       copies = made_so.named ∙ ap (option_map length) h.named;
     }

@@ -1,5 +1,5 @@
 -- What is made of a merge besides its log.
-use Rattle.std.specs.Prelude.{◌≡◌}
+use Rattle.std.specs.Prelude.{◌≡◌, option_map}
 use Rattle.std.specs.Borrow.{Bor}
 use Rattle.std.specs.Fn.{FnOnceReturns, Once}
 use Rattle.sarif_log.specs.declared.facts.Facts.{Facts}
@@ -13,6 +13,7 @@ pub record AreFactsOf (merged : Merged) (facts : Facts) : Type 0 where
   pub expired : facts.expired ≡ merged.expired
   pub findings : facts.findings.now ≡ merged.findings
   pub change : facts.change ≡ merged.change
+  pub ruling : option_map (λ f. f.now) facts.ruling ≡ merged.ruling
   pub copies : facts.copies ≡ merged.copies
   pub life : facts.life.now ≡ merged.life
 

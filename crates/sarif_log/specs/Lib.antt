@@ -6,4 +6,5 @@ pub mod Internal
 pub mod Log
 pub mod LogBy
 pub mod MergedRuns
+pub mod Ruled
 pub mod Told

@@ -4,13 +4,14 @@ ghost use Rattle.serde_json.specs.Data.{Data};
 ghost use Rattle.sarif_evidence.specs.declared.version.MatchingVersion.{MatchingVersion};
 ghost use Rattle.sarif_entries.specs.File.{File};
 ghost use Rattle.sarif_runs.specs.Placed.{Placed};
-ghost use Rattle.sarif_findings.specs.declared.reporting.Reporting.{Reporting};
+ghost use Rattle.sarif_findings.specs.declared.finding.Finding.{Finding};
 ghost use Rattle.sarif_log.specs.Counted.{IsMergedAs};
 ghost use Rattle.sarif_log.specs.declared.copies.CopyPlace.{CopyPlace};
 ghost use Rattle.sarif_log.specs.Beside.{IsMadeBy};
 ghost use Rattle.sarif_log.specs.Assembled.{IsMergedBy};
 ghost use Rattle.sarif_log.specs.Internal.Prepared.{IsPrepared, IsPreparedAs};
 ghost use Rattle.sarif_scope.specs.declared.gated.GatedChange.{GatedChange};
+ghost use Rattle.sarif_conditions.specs.declared.facts.PolicyFacts.{PolicyFacts};
 ghost use denote.Param.Send.{IsSend};
 
 use crate::facts::Facts;
@@ -22,10 +23,11 @@ use std::alloc::{AllocError, Global};
 use std::thread;
 use std::thread::Threads;
 
-/// Returns the merged log of what was prepared, with the gate of the policy of `options`, with what is for later
-/// merges, and what `tell` returns for the facts of the merge. As many threads as there are workers count the
-/// results, and `tell` is called while the log's text is made. Meanwhile one more thread releases `spent`, such as the
-/// memory of the sources. Returns `AllocError` if memory runs out or if `tell` returns it.
+/// Returns the merged log of what was prepared, with what is for later merges, and what `tell` returns for the facts
+/// of the merge. Its gate is that of the policy of `options`, or if conditions of a policy decide, theirs. As many
+/// threads as there are workers count the results, and `tell` is called while the log's text is made. Meanwhile one
+/// more thread releases `spent`, such as the memory of the sources. Returns `AllocError` if memory runs out or if
+/// `tell` returns it.
 pub fn assemble<
     R: Threads + Sync,
     B: Drop,
@@ -42,16 +44,18 @@ pub fn assemble<
     requires tells { Tell.IsAlwaysCallable tell }
     ensures merged { IfOk result (λ made. (version : MatchingVersion) (file : File)
         (current_runs baseline_runs : List Placed) (change : Option GatedChange)
-        (asked : Option Reporting)
-        → IsPrepared version file current_runs baseline_runs change options.now.policy asked
-        prepared
-        → IsMergedBy version file current_runs baseline_runs change options.now.policy asked
-        made.0) }
+        (ruling : Option PolicyFacts) (told : List Finding)
+        → IsPrepared version file current_runs baseline_runs change options.now.policy ruling
+        told prepared
+        → IsMergedBy version file current_runs baseline_runs change options.now.policy ruling
+        told made.0) }
     ensures counted { IfOk result (λ made. (runs counted : List Data)
-        (places : Option (List CopyPlace)) (change : Option GatedChange) (bare idle : ℕ)
-        (asked : Option Reporting)
-        → IsPreparedAs runs counted places change options.now.policy bare idle asked prepared
-        → IsMergedAs runs counted places change options.now.policy bare idle asked made.0) }
+        (places : Option (List CopyPlace)) (change : Option GatedChange)
+        (ruling : Option PolicyFacts) (bare idle : ℕ) (told : List Finding)
+        → IsPreparedAs runs counted places change options.now.policy ruling bare idle told
+        prepared
+        → IsMergedAs runs counted places change options.now.policy ruling bare idle told
+        made.0) }
     ensures expired { IfOk result (λ made. made.0.expired ≡ prepared.expired) }
     ensures life { IfOk result (λ made. made.0.life ≡ prepared.life) }
     ensures told { IfOk result (λ made. IsMadeBy Tell.FnOnce tell made.0 (Ok made.1)) }
@@ -59,12 +63,12 @@ pub fn assemble<
     let write = move || -> Result<(Merged, B), AllocError>
         requires { Tell.IsAlwaysCallable tell }
         ensures counted { IfOk result (λ made. (runs counted : List Data)
-            (places : Option (List CopyPlace)) (change : Option GatedChange) (bare idle : ℕ)
-            (asked : Option Reporting)
-            → IsPreparedAs runs counted places change options.entry.now.policy bare idle asked
-            prepared
-            → IsMergedAs runs counted places change options.entry.now.policy bare idle asked
-            made.0) }
+            (places : Option (List CopyPlace)) (change : Option GatedChange)
+            (ruling : Option PolicyFacts) (bare idle : ℕ) (told : List Finding)
+            → IsPreparedAs runs counted places change options.entry.now.policy ruling bare idle
+            told prepared
+            → IsMergedAs runs counted places change options.entry.now.policy ruling bare idle
+            told made.0) }
         ensures expired { IfOk result (λ made. made.0.expired ≡ prepared.expired) }
         ensures life { IfOk result (λ made. made.0.life ≡ prepared.life) }
         ensures told { IfOk result (λ made. IsMadeBy Tell.FnOnce tell made.0 (Ok made.1)) }

@@ -1,4 +1,5 @@
 //! What outputs besides the log are made of.
+use sarif_conditions::PolicyFacts;
 use sarif_counts::{Counts, Life};
 use sarif_findings::Finding;
 use sarif_scope::ChangeFacts;
@@ -18,6 +19,8 @@ pub struct Facts<'m> {
     pub findings: &'m Vec<Finding>,
     /// What the gate says about the change that it checks, if it checks one.
     pub change: Option<ChangeFacts>,
+    /// What the conditions of the gate's policy decide, if it has one.
+    pub ruling: Option<&'m PolicyFacts>,
     /// How many copies the gate names, if copies aren't counted.
     pub copies: Option<u64>,
     /// What is for later merges.

@@ -1,4 +1,5 @@
 //! What a merge gives.
+use sarif_conditions::PolicyFacts;
 use sarif_counts::{Counts, Life, Verdict};
 use sarif_findings::Finding;
 use sarif_model::Text;
@@ -11,10 +12,12 @@ pub struct Merged {
     pub log: Text,
     /// Its results, counted.
     pub counts: Counts,
-    /// What the policy makes of the counts, and of the change if the gate checks one.
+    /// What the policy makes of the counts, and of the change if the gate checks one, or what its conditions decide.
     pub verdict: Verdict,
     /// What its gate says about the change that it checks, if it checks one.
     pub change: Option<ChangeFacts>,
+    /// What the conditions of the gate's policy decide, if it has one.
+    pub ruling: Option<PolicyFacts>,
     /// How many input runs have no results.
     pub without: u32,
     /// How many entries of the suppression file match no current result.

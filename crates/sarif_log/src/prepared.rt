@@ -5,6 +5,7 @@ ghost use Rattle.sarif_log.specs.Internal.Side.{IsSide};
 ghost use Rattle.sarif_model.specs.Limits.{most_results};
 
 use crate::merged_text::Side;
+use sarif_conditions::PolicyFacts;
 use sarif_counts::Life;
 use sarif_findings::Finding;
 use sarif_model::Record;
@@ -45,6 +46,8 @@ pub struct Prepared {
     pub findings: Vec<Finding>,
     /// What the gate says about the change that it checks, if it checks one.
     pub change: Option<ChangeFacts>,
+    /// What the conditions of the gate's policy decide, if it has one.
+    pub ruling: Option<PolicyFacts>,
     /// What is for later merges.
     pub life: Life,
     /// Which results are copies, where copies aren't counted.

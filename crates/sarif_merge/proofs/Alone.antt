@@ -1,8 +1,10 @@
 -- A merge from which nothing was requested for later merges.
-use Rattle.std.proofs.Common.{◌≡◌, ◌<◌, ◌⊎◌, ℕ, List, Option, Some, inl, inr, length, subst, ◌∙◌}
+use Rattle.std.proofs.Common.{◌≡◌, ◌<◌, ◌⊎◌, ℕ, List, [], Option, Some, inl, inr, length, refl, subst, ◌∙◌}
 use Rattle.std.specs.Io.KnownBytes.{Appends}
 use Rattle.std.specs.Prelude.{None, take}
 use Rattle.sarif_counts.specs.declared.life.Life.{Life}
+use Rattle.sarif_entries.specs.File.{File}
+use Rattle.sarif_options.specs.declared.checks.Checks.{Checks}
 use Rattle.sarif_options.specs.declared.options.Options.{Options}
 use Rattle.sarif_options.specs.declared.policy.Policy.{Policy}
 use Rattle.sarif_options.specs.declared.upkeep.Upkeep.{Upkeep}
@@ -11,7 +13,16 @@ use Rattle.sarif_log.specs.declared.merged.Merged.{Merged}
 use Rattle.sarif_model.specs.declared.merge_fault.MergeFault.{MergeFault}
 use Rattle.sarif_model.specs.FirstFault.{IsOutOfResources}
 use Rattle.sarif_inputs.specs.Faults.{first_fault}
-use Rattle.sarif_inputs.specs.Inputs.{Inputs}
+use Rattle.sarif_inputs.specs.Inputs.{Inputs, baseline_runs, input_runs}
+use Rattle.sarif_merge.specs.Merged.{IsMerged}
+use Rattle.sarif_merge.specs.MergedLog.{change_given, conditions_given, file_given, runs_counted, told_given}
+use Rattle.sarif_policy.specs.declared.condition.GateCondition.{GateCondition}
+use Rattle.sarif_prepare.specs.By.{counted_if}
+use Rattle.sarif_prepare.specs.Ruled.{matched_in}
+use Rattle.sarif_prepare.specs.Told.{told_in}
+use Rattle.sarif_runs.specs.Placed.{Placed}
+use Rattle.sarif_scope.specs.declared.gated.GatedChange.{GatedChange}
+use Rattle.serde_json.specs.Data.{Data}
 use Rattle.sarif_choice.specs.declared.choice.Choosing.{Choosing}
 use Rattle.sarif_merge.specs.Life.{IsLifeOf, IsRefusal, no_life}
 use Rattle.sarif_streams.specs.declared.readers.Readers.{Readers}
@@ -30,6 +41,20 @@ life_alone inputs policy choice life kept = kept.is
 pub kept_alone : {R : Type 0} → (remaining : R → Option (List ℕ)) → (old new : Readers R) → (options : Options) → (asked : Option Reporting) → (choice : Option Choosing)
     → (merged : Merged) → IsMergedWith remaining old new options asked choice None merged → merged.life ≡ no_life
 kept_alone remaining old new options asked choice merged with_life = with_life.3.is
+
+-- without reports there are no findings
+none_told : (conditions : Option (List GateCondition)) (checks : Checks) (file : File) (change : Option GatedChange) (current baseline : List Placed)
+    (runs : List Data) → told_in conditions (matched_in checks.matching file change current baseline) None runs ≡ []
+none_told None checks file None current baseline runs = refl
+none_told None checks file (Some change) current baseline runs = refl
+none_told (Some cs) checks file change current baseline runs = refl
+
+pub untold_alone : (inputs : Inputs) (policy : Policy) (merged : Merged) → IsMerged inputs policy None merged → merged.findings.items ≡ []
+unfolding told_given
+untold_alone inputs policy merged made =
+    made.told
+    ∙ none_told (conditions_given inputs) inputs.checks (file_given inputs) (change_given inputs)
+    (counted_if inputs.checks.once (input_runs inputs)) (counted_if inputs.checks.once (baseline_runs inputs)) (runs_counted inputs)
 
 -- a merge with nothing for later merges is rejected for no other reason
 pub refused_alone : {R : Type 0} → (remaining : R → Option (List ℕ)) → (old new : Readers R) → (options : Options) → (choice : Option Choosing)

@@ -15,8 +15,11 @@ use Rattle.sarif_suppress.specs.Suppressing.{unused_of}
 use Rattle.sarif_model.specs.declared.merge_fault.MergeFault.{MergeFault}
 use Rattle.sarif_model.specs.declared.merge_fault.Source.TheVariants.{Log, Baseline}
 use Rattle.sarif_options.specs.declared.policy.Policy.{Policy}
+use Rattle.sarif_findings.specs.declared.finding.Finding.{Finding}
 use Rattle.sarif_findings.specs.declared.reporting.Reporting.{Reporting}
-use Rattle.sarif_scope.specs.Gate.{gate_by}
+use Rattle.sarif_conditions.specs.declared.facts.PolicyFacts.{PolicyFacts}
+use Rattle.sarif_log.specs.Ruled.{gate_ruled}
+use Rattle.sarif_policy.specs.declared.condition.GateCondition.{GateCondition}
 use Rattle.sarif_scope.specs.declared.gated.GatedChange.{GatedChange}
 use Rattle.sarif_runs.specs.Judging.{faults_of_runs, run_faults, run_values}
 use Rattle.sarif_runs.specs.Placed.{Placed}
@@ -41,17 +44,19 @@ use Rattle.sarif_upkeep.specs.Life.{life_faults}
 use Rattle.sarif_prepare.specs.Kept.{IsKept}
 use Rattle.sarif_choice.specs.declared.choice.Choosing.{Choosing}
 use Rattle.sarif_merge.specs.Merged.{IsMerged}
-use Rattle.sarif_merge.specs.MergedLog.{change_given, file_in}
+use Rattle.sarif_merge.specs.MergedLog.{change_given, file_in, ruling_given, told_given}
 use Rattle.sarif_merge.specs.Internal.Prepared.{IsPreparedFor}
 use Rattle.sarif_model.specs.Limits.{most_sources}
 
 -- ---- what is assembled
 
-pub same_runs : (v : Checks) (file : File) (now before xs ys : List Placed) (change : Option GatedChange) (policy : Policy) (asked : Option Reporting)
-    (prepared : Prepared) → IsPreparedBy v file now before change policy asked prepared → now ≡ xs → before ≡ ys
-    → IsPreparedBy v file xs ys change policy asked prepared
-same_runs v file now before xs ys change policy asked prepared h e f =
-    subst (λ k. IsPreparedBy v file xs k change policy asked prepared) f (subst (λ k. IsPreparedBy v file k before change policy asked prepared) e h)
+pub same_runs : (v : Checks) (file : File) (now before xs ys : List Placed) (change : Option GatedChange) (policy : Policy)
+    (conditions : Option (List GateCondition)) (asked : Option Reporting)
+    (prepared : Prepared) → IsPreparedBy v file now before change policy conditions asked prepared → now ≡ xs → before ≡ ys
+    → IsPreparedBy v file xs ys change policy conditions asked prepared
+same_runs v file now before xs ys change policy conditions asked prepared h e f =
+    subst (λ k. IsPreparedBy v file xs k change policy conditions asked prepared) f
+    (subst (λ k. IsPreparedBy v file k before change policy conditions asked prepared) e h)
 
 -- what is for later merges, of the same runs
 pub same_kept : (v : Checks) (file : File) (bytes : Option (List ℕ)) (change : Option GatedChange) (policy : Policy) (choice : Option Choosing)
@@ -73,11 +78,13 @@ same_large v file bytes change policy choice now before xs ys upkeep fault h e f
 -- what is assembled of what was prepared for these inputs
 pub assembled_is : (inputs : Inputs) (policy : Policy) (asked : Option Reporting) (choice : Option Choosing) (upkeep : Option Upkeep) (prepared : Prepared)
     (merged : Merged) → IsPreparedFor inputs policy asked choice upkeep prepared
-    → ((runs counted : List Data) (places : Option (List CopyPlace)) (change : Option GatedChange) (bare idle : ℕ) (told : Option Reporting)
-    → IsPreparedAs runs counted places change policy bare idle told prepared
-    → IsMergedAs runs counted places change policy bare idle told merged)
+    → ((runs counted : List Data) (places : Option (List CopyPlace)) (change : Option GatedChange) (ruling : Option PolicyFacts)
+    (bare idle : ℕ) (told : List Finding)
+    → IsPreparedAs runs counted places change policy ruling bare idle told prepared
+    → IsMergedAs runs counted places change policy ruling bare idle told merged)
     → merged.expired ≡ prepared.expired
     → IsMerged inputs policy asked merged
+unfolding ruling_given told_given
 assembled_is inputs policy asked choice upkeep prepared merged ready assembled past =
     let checks = inputs.checks in
     let entries = file_in (file_or_none inputs.suppressions inputs.today) in
@@ -87,10 +94,11 @@ assembled_is inputs policy asked choice upkeep prepared merged ready assembled p
     let places = copies_if checks.once checks.matching logs baselines in
     let bare = runs_without_results (run_values logs) in
     let idle = unused_of entries (limited_records entries (counted_if checks.once logs)) in
-    let made = assembled (written_if checks.once checks.matching entries logs baselines) counted places (change_given inputs) bare idle asked ready.written in record {
+    let ruling = ruling_given inputs in
+    let made = assembled (written_if checks.once checks.matching entries logs baselines) counted places (change_given inputs) ruling bare idle (told_given inputs asked) ready.written in record {
       faultless = ready.faultless;
       begins = (
-        naming places (gate_by (change_given inputs) counted policy bare idle),
+        naming places (gate_ruled ruling (change_given inputs) counted policy bare idle),
         left_if checks.once checks.matching logs baselines,
         made.written.log,
       );

@@ -48,12 +48,14 @@ use Rattle.sarif_prepare.specs.Asked.{choice_in, reporting_in, upkeep_in}
 use Rattle.sarif_log.specs.Internal.Prepared.{IsPreparedAs}
 use Rattle.sarif_log.specs.declared.merged.Merged.{Merged}
 use Rattle.sarif_log.specs.declared.prepared.Prepared.{Prepared}
+use Rattle.sarif_findings.specs.declared.finding.Finding.{Finding}
 use Rattle.sarif_findings.specs.declared.reporting.Reporting.{Reporting}
 use Rattle.sarif_upkeep.specs.Internal.IsMatched.{IsFileOf}
 use Rattle.sarif_upkeep.specs.Life.{life_faults}
 use Rattle.sarif_merge.specs.Life.{IsLifeOf, IsRefusal}
 use Rattle.sarif_merge.specs.Merged.{IsMerged}
-use Rattle.sarif_merge.specs.MergedLog.{change_given, file_given, file_in}
+use Rattle.sarif_conditions.specs.declared.facts.PolicyFacts.{PolicyFacts}
+use Rattle.sarif_merge.specs.MergedLog.{change_given, conditions_given, file_given, file_in}
 use Rattle.sarif_merge.specs.Internal.Steps.{AreBaselinesJudged, AreBaselinesOpened, AreBaselinesReady, AreIndexesIn, AreLogsJudged, AreLogsOpened, AreLogsReady, AreLogsSound, AreOpened, IsChangeIn, IsFileIn, IsMergeOf, IsPolicyIn, IsReady, IsRead, IsRejection, change_read_in, checks_in, inputs_in, policy_in, policy_read_in}
 use Rattle.sarif_merge.specs.declared.steps.Merging.{Merging}
 use Rattle.sarif_merge.proofs.ReadObjects.{objects_in}
@@ -216,6 +218,10 @@ rejected_diff m conditions bytes fault read is_bytes found quiet =
     (subst (λ b. IsOutOfResources fault ⊎ (first (faults_of_change (change_read (checks_in m) b)) ≡ Some fault)) is_bytes found) quiet
 
 -- the change is the one that the definitions read
+same_conditions : (m : Merging) (conditions : Option (List GateCondition)) → IsPolicyIn m conditions → conditions ≡ conditions_given (inputs_in m)
+unfolding IsPolicyIn
+same_conditions m conditions read = sym read.0
+
 same_change : (m : Merging) (change : Option GatedChange) → IsChangeIn m change → change ≡ change_given (inputs_in m)
 unfolding IsChangeIn
 same_change m change read = sym read.0
@@ -358,15 +364,16 @@ none_left m change now before read logs baselines =
     read.1 ∙ left_after_first (input_runs (inputs_in m)) (baseline_runs (inputs_in m)) (ap faults_of_runs (sym logs.0) ∙ logs.1.faultless)
     ∙ ap faults_of_runs (sym baselines.0) ∙ baselines.1.faultless
 
-pub is_ready : (m : Merging) (bytes : Option (List ℕ)) (file : File) (change : Option GatedChange) (now before : Judged) (prepared : Prepared) → IsFileIn m file
-    → IsChangeIn m change → AreLogsJudged m now → AreBaselinesJudged m before
+pub is_ready : (m : Merging) (bytes : Option (List ℕ)) (file : File) (conditions : Option (List GateCondition)) (change : Option GatedChange)
+    (now before : Judged) (prepared : Prepared) → IsFileIn m file
+    → IsPolicyIn m conditions → IsChangeIn m change → AreLogsJudged m now → AreBaselinesJudged m before
     → bytes ≡ (inputs_in m).suppressions
-    → IsPreparedBy (checks_in m) file (placed_in now) (placed_in before) change (policy_in m) (reporting_in m.asked.now) prepared
+    → IsPreparedBy (checks_in m) file (placed_in now) (placed_in before) change (policy_in m) conditions (reporting_in m.asked.now) prepared
     → prepared.expired ≡ expired_of file (limited_records file (placed_in now))
     → IsKept (merge_by (checks_in m) file bytes change (policy_in m) (choice_in m.asked.now) (placed_in now) (placed_in before)) (upkeep_in m.asked.now) prepared.life
     → IsReady m prepared
 unfolding IsReady AreLogsJudged AreBaselinesJudged
-is_ready m bytes file change now before prepared read looked logs baselines is ready past kept =
+is_ready m bytes file conditions change now before prepared read asked_for looked logs baselines is ready past kept =
     let inputs = inputs_in m in
     let asked = reporting_in m.asked.now in
     let choice = choice_in m.asked.now in
@@ -375,9 +382,11 @@ is_ready m bytes file change now before prepared read looked logs baselines is r
     let ys = baseline_runs inputs in record {
       faultless = none_left m change now before looked logs baselines;
       written =
-          subst (λ f. IsPreparedBy (checks_in m) f xs ys (change_given inputs) (policy_in m) asked prepared) (same_file m file read)
-          (subst (λ c. IsPreparedBy (checks_in m) file xs ys c (policy_in m) asked prepared) (same_change m change looked)
-          (same_runs (checks_in m) file (placed_in now) (placed_in before) xs ys change (policy_in m) asked prepared ready logs.0 baselines.0));
+          subst (λ f. IsPreparedBy (checks_in m) f xs ys (change_given inputs) (policy_in m) (conditions_given inputs) asked prepared)
+          (same_file m file read)
+          (subst (λ c. IsPreparedBy (checks_in m) file xs ys c (policy_in m) (conditions_given inputs) asked prepared) (same_change m change looked)
+          (subst (λ cs. IsPreparedBy (checks_in m) file xs ys change (policy_in m) cs asked prepared) (same_conditions m conditions asked_for)
+          (same_runs (checks_in m) file (placed_in now) (placed_in before) xs ys change (policy_in m) conditions asked prepared ready logs.0 baselines.0)));
       expired = past ∙ ap (λ runs. expired_of file (limited_records file runs)) logs.0
           ∙ ap (λ f. expired_of f (limited_records f xs)) (same_file m file read);
       kept =
@@ -417,9 +426,10 @@ rejected_life m bytes file change now before fault read looked logs baselines is
 -- ---- assemble
 
 pub is_merge_of : (m : Merging) (prepared : Prepared) (merged : Merged) → IsReady m prepared
-    → ((runs counted : List Data) (places : Option (List CopyPlace)) (change : Option GatedChange) (bare idle : ℕ) (told : Option Reporting)
-    → IsPreparedAs runs counted places change (policy_in m) bare idle told prepared
-    → IsMergedAs runs counted places change (policy_in m) bare idle told merged)
+    → ((runs counted : List Data) (places : Option (List CopyPlace)) (change : Option GatedChange) (ruling : Option PolicyFacts)
+    (bare idle : ℕ) (told : List Finding)
+    → IsPreparedAs runs counted places change (policy_in m) ruling bare idle told prepared
+    → IsMergedAs runs counted places change (policy_in m) ruling bare idle told merged)
     → merged.expired ≡ prepared.expired → merged.life ≡ prepared.life → IsMergeOf m merged
 unfolding IsReady IsMergeOf
 is_merge_of m prepared merged ready assembled past same = (

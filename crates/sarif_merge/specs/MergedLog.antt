@@ -1,5 +1,5 @@
 -- The merged log of inputs, and its text (SARIF 2.1.0, "sarifLog object").
-use Rattle.std.specs.Prelude.{ℕ, List, [], Option, None, Result, Ok, Err}
+use Rattle.std.specs.Prelude.{ℕ, List, [], Option, None, Result, Ok, Err, is_some}
 use Rattle.serde_json.specs.Data.{Data}
 use Rattle.serde_json.specs.Written.{compact_text}
 use Rattle.sarif_model.specs.declared.record.Record.{Record}
@@ -11,10 +11,15 @@ use Rattle.sarif_runs.specs.Judging.{records_of, run_values}
 use Rattle.sarif_log.specs.LogBy.{current_runs, expired_of, limited_records, runs_by, runs_without_results}
 use Rattle.sarif_log.specs.declared.copies.CopyPlace.{CopyPlace}
 use Rattle.sarif_entries.specs.Given.{file_or_none}
+use Rattle.sarif_conditions.specs.declared.facts.PolicyFacts.{PolicyFacts}
+use Rattle.sarif_findings.specs.declared.finding.Finding.{Finding}
+use Rattle.sarif_findings.specs.declared.reporting.Reporting.{Reporting}
 use Rattle.sarif_inputs.specs.ChangeIn.{change_or_none, change_read}
+use Rattle.sarif_inputs.specs.PolicyIn.{conditions_or_none, policy_read}
+use Rattle.sarif_policy.specs.declared.condition.GateCondition.{GateCondition}
 use Rattle.sarif_scope.specs.declared.gated.GatedChange.{GatedChange}
 use Rattle.sarif_inputs.specs.Inputs.{Inputs, input_runs, baseline_runs}
-use Rattle.sarif_prepare.specs.By.{copies_if, counted_if, inputs_if, logged_by, runs_counted_if, written_if}
+use Rattle.sarif_prepare.specs.By.{copies_if, counted_if, inputs_if, logged_by, ruled_if, runs_counted_if, told_if, written_if}
 
 abbrev pub file_in : Result File FileFault → File
 file_in (Ok entries) = entries
@@ -27,6 +32,23 @@ file_given inputs = file_in (file_or_none inputs.suppressions inputs.today)
 -- the change that the gate checks, if there is a diff
 abbrev pub change_given : Inputs → Option GatedChange
 change_given inputs = change_or_none (change_read inputs.checks inputs.diff)
+
+-- the conditions of the policy, if there is one
+abbrev pub conditions_given : Inputs → Option (List GateCondition)
+conditions_given inputs =
+    conditions_or_none (policy_read (is_some inputs.diff) inputs.policy)
+
+-- what the conditions of the policy decide about the results that are counted, if there is a policy
+unfoldable pub ruling_given : Inputs → Option PolicyFacts
+ruling_given inputs =
+    ruled_if (conditions_given inputs) inputs.checks (file_given inputs) (change_given inputs)
+    (input_runs inputs) (baseline_runs inputs)
+
+-- the findings of the results that are counted, if they are requested; with a policy those that its conditions report
+unfoldable pub told_given : Inputs → Option Reporting → List Finding
+told_given inputs asked =
+    told_if (conditions_given inputs) inputs.checks (file_given inputs) (change_given inputs)
+    asked (input_runs inputs) (baseline_runs inputs)
 
 -- the records of all results of the logs
 abbrev pub current_of : Inputs → List Record
@@ -95,7 +117,7 @@ unused_counted inputs =
 abbrev pub merged_log : Inputs → Policy → Data
 merged_log inputs policy =
     logged_by inputs.checks (file_given inputs) (input_runs inputs) (baseline_runs inputs)
-    (change_given inputs) policy
+    (change_given inputs) policy (conditions_given inputs)
 
 -- the text that is written: compact, members in the byte order of their names, nothing after it
 abbrev pub output_text : Inputs → Policy → List ℕ

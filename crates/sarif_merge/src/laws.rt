@@ -16,12 +16,12 @@ ghost use Rattle.sarif_options.specs.declared.policy.Policy.{Policy};
 ghost use Rattle.sarif_scope.specs.Counted.{verdict_by};
 ghost use Rattle.sarif_log.specs.Copies.{naming};
 ghost use Rattle.sarif_log.specs.Log.{log_with};
-ghost use Rattle.sarif_log.specs.Told.{told_by, told_of};
+ghost use Rattle.sarif_log.specs.Told.{told_of};
 ghost use Rattle.sarif_log.specs.MergedRuns.{absent_runs, merged_runs};
 ghost use Rattle.sarif_log.specs.LogBy.{listing_of};
 ghost use Rattle.sarif_inputs.specs.Faults.{faults_of};
 ghost use Rattle.sarif_inputs.specs.Inputs.{Inputs, input_runs, reading_checks, record_options};
-ghost use Rattle.sarif_merge.specs.MergedLog.{change_given, copies_in_log, merged_log, runs_counted, runs_in_log, runs_written, unused_counted, without_of, written_inputs};
+ghost use Rattle.sarif_merge.specs.MergedLog.{change_given, copies_in_log, merged_log, ruling_given, runs_counted, runs_in_log, runs_written, told_given, unused_counted, without_of, written_inputs};
 ghost use Rattle.sarif_merge.specs.OwnResult.{IsResult, number_among_all, run_at, written_by, written_run};
 
 use sarif_entries::object_holds_no_fraction;
@@ -62,18 +62,18 @@ pub fn each_result_is_written_as_its_own()
         ≡ written_by inputs r (number_among_all inputs k seq) (result_at (run_at inputs k) seq)) }
 {}
 
-/// Without a diff the gate checks no change: the gate object, the verdict and the findings are those of all results
-/// that are counted.
+/// Without a diff the gate checks no change, and without a policy no conditions decide: the gate object, the verdict and
+/// the findings are those of all results that are counted.
 pub fn without_a_diff_all_results_count()
     ensures change { (inputs : Inputs) → inputs.diff ≡ None → change_given inputs ≡ None }
+    ensures ruling { (inputs : Inputs) → inputs.policy ≡ None → ruling_given inputs ≡ None }
     ensures log { (inputs : Inputs) (policy : Policy) → inputs.diff ≡ None
-        → merged_log inputs policy
+        → inputs.policy ≡ None → merged_log inputs policy
         ≡ log_with (naming (copies_in_log inputs) (gate_of (count_of (runs_counted inputs)) policy
         (without_of inputs) (unused_counted inputs))) (runs_in_log inputs) }
     ensures verdict { (inputs : Inputs) (policy : Policy) → inputs.diff ≡ None
         → verdict_by (change_given inputs) policy (runs_counted inputs)
         ≡ verdict_of (count_of (runs_counted inputs)) policy }
     ensures told { (inputs : Inputs) (asked : Option Reporting) → inputs.diff ≡ None
-        → told_by (change_given inputs) asked (runs_counted inputs)
-        ≡ told_of asked (runs_counted inputs) }
+        → inputs.policy ≡ None → told_given inputs asked ≡ told_of asked (runs_counted inputs) }
 {}

@@ -10,7 +10,7 @@ ghost use Rattle.sarif_inputs.specs.PolicyIn.{conditions_in};
 ghost use Rattle.sarif_merge.specs.Given.{inputs_of};
 ghost use Rattle.sarif_merge.specs.Life.{IsLifeOf, IsRefusal, no_life};
 ghost use Rattle.sarif_merge.specs.Merged.{HoldsFirst, IsMerged};
-ghost use Rattle.sarif_merge.specs.MergedLog.{change_given, copies_in_log, expired_in, inputs_in_log, output_text, runs_counted, unused_counted, without_of};
+ghost use Rattle.sarif_merge.specs.MergedLog.{change_given, copies_in_log, expired_in, inputs_in_log, output_text, ruling_given, runs_counted, unused_counted, without_of};
 ghost use Rattle.sarif_merge.specs.Internal.Steps.{AreBaselinesOpened, AreLogsOpened, IsChangeIn, IsFileIn, IsPolicyIn, IsReady, IsRejection};
 ghost use Rattle.sarif_model.specs.Limits.{most_sources};
 
@@ -141,9 +141,9 @@ pub(crate) fn tell_nothing(_facts: &Facts<'_>) -> Result<(), AllocError> {
 
 /// Merges logs with baselines: gives each current result its effective level, its baseline state and its
 /// suppressions, adds the unmatched results of the baselines as absent, and computes the gate's verdict. If there is a
-/// diff, only results inside its change can be hits. The merged log and its counts depend only on the sources, the
-/// policy and today's date, and neither on the number of workers nor on their order. `observer` observes the judging of
-/// results. A rejection is the first error of the inputs with its place: `TooMany` if there are too many logs or
+/// diff, only results inside its change can be hits; if there is a policy, its conditions say what is a hit and what
+/// fails. The merged log and its counts depend only on the sources, the options' policy and today's date, and neither on
+/// the number of workers nor on their order. `observer` observes the judging of results. A rejection is the first error of the inputs with its place: `TooMany` if there are too many logs or
 /// baselines, and then the errors of reading the logs and the baselines, of the suppression file, of the policy, of the
 /// diff, of the logs' runs and results, and of the baselines' runs and results. Its cause is any except `TooLong`,
 /// `ReadFailed` and `WriteFailed`. `OutOfMemory`, if memory runs out, and `NoWorker`, if a thread cannot be started,
@@ -166,10 +166,10 @@ pub fn merge_bytes<G: Gate + Sync, R: Threads + Wait + Sync>(
     ensures log { IfOk result (λ merged. merged.log
         ≡ output_text (inputs_of sources.now options.now) options.now.policy) }
     // Counts, verdict and numbers are those of the results that are written and counted. With a diff, the hits and
-    // the verdict are those of the results inside its change.
+    // the verdict are those of the results inside its change; with a policy, the verdict is that of its conditions.
     ensures gate { let inputs = inputs_of sources.now options.now in
         IfOk result (HasGate (runs_counted inputs) (change_given inputs) options.now.policy
-        (without_of inputs) (unused_counted inputs)) }
+        (ruling_given inputs) (without_of inputs) (unused_counted inputs)) }
     // The number of unused entries that are expired is counted.
     ensures expired { IfOk result
         (λ merged. merged.expired ≡ expired_in (inputs_of sources.now options.now)) }

@@ -2,6 +2,7 @@
 //! rejections is one of the merge. One definition states what a step makes, and only the proof of
 //! this step opens it.
 ghost use Rattle.std.specs.Prelude.{◌≡◌, ◌≤◌, ◌+◌, Ok, length, option_map, IfOk, IfErr, OnOk};
+ghost use Rattle.sarif_inputs.specs.PolicyIn.{conditions_in};
 ghost use Rattle.sarif_log.specs.Beside.{IsMadeBy};
 ghost use Rattle.sarif_model.specs.Limits.{most_sources};
 
@@ -38,6 +39,16 @@ fn change_of(change: &Option<GatedChange>) -> Option<&GatedChange>
     ensures { option_map (λ c. c.now) result ≡ change.now }
 {
     change.as_ref()
+}
+
+/// Returns the policy, if there is one.
+fn policy_of(policy: &Option<GatePolicy>) -> Option<&GatePolicy>
+    ensures { option_map (λ p. p.now.conditions) result ≡ conditions_in policy.now }
+{
+    match policy {
+        Some(policy) => Some(policy),
+        None => None,
+    }
 }
 
 /// A number of scratches.
@@ -250,6 +261,7 @@ impl<'m, 'o: 'm> Merging<'m, 'o> {
         files: &FilesRead<'_>,
     ) -> Result<Prepared, MergeFault>
         requires file { IsFileIn self.now files.now.file.now }
+        requires policy { IsPolicyIn self.now (conditions_in files.now.policy.now) }
         requires change { IsChangeIn self.now files.now.change.now }
         requires logs { AreLogsJudged self.now logs }
         requires baselines { AreBaselinesJudged self.now baselines }
@@ -259,6 +271,7 @@ impl<'m, 'o: 'm> Merging<'m, 'o> {
         let rules = FileRead {
             file: files.file,
             bytes: slice_of(&self.sources.suppressions),
+            policy: policy_of(files.policy),
             change: change_of(files.change),
         };
         let prepared = prepare_by(rt, alloc, logs, baselines, &rules, self.asked)?;

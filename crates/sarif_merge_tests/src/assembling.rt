@@ -61,6 +61,7 @@ fn prepare_nothing<R: Threads + Sync>(
     let rules = FileRead {
         file,
         bytes: None,
+        policy: None,
         change: None,
     };
     let asked = Asked {

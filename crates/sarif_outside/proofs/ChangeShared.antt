@@ -15,6 +15,7 @@ use Rattle.sarif_change.specs.contracts.changed.Changed as Changed
 use Rattle.sarif_change.specs.contracts.known.KnownPath as KnownPath
 use Rattle.sarif_change.specs.contracts.tree.Tree as Tree
 use Rattle.sarif_scope.specs.contracts.gated.GatedChange as GatedChange
+use Rattle.sarif_outside.specs.contracts.scoped.ScopedChange as ScopedChange
 
 tree_sync : IsSync Tree.the_row
 tree_sync = search (knot.crosses, file.the_sync, part.the_sync, sendable, crosses) depth 60
@@ -22,8 +23,11 @@ tree_sync = search (knot.crosses, file.the_sync, part.the_sync, sendable, crosse
 changed_sync : IsSync Changed.the_row
 changed_sync = search (tree_sync, section.the_sync, sequence.the_sync, sendable, crosses) depth 40
 
-pub change_sync : IsSync GatedChange.the_row
+change_sync : IsSync GatedChange.the_row
 change_sync = search (changed_sync, text.the_sync, sequence.the_sync, sendable, crosses) depth 40
+
+pub scoped_sync : (κ : NamedLft) → IsSync (ScopedChange.the_field κ).row
+scoped_sync κ = search (change_sync, sendable, crosses) depth 40
 
 path_sync : (κ : NamedLft) → IsSync (KnownPath.the_row κ)
 path_sync κ = search (lines.the_sync, sendable, crosses) depth 40

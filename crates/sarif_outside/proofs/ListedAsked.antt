@@ -8,7 +8,7 @@ use Rattle.sarif_runs.specs.Placed.{Placed}
 use Rattle.sarif_runs.specs.Internal.Spots.{no_run, placed_at}
 use Rattle.sarif_scope.specs.Inside.{is_outside_of}
 use Rattle.sarif_scope.specs.declared.gated.GatedChange.{GatedChange}
-use Rattle.sarif_outside.specs.Internal.Asked.{placed_looked}
+use Rattle.sarif_outside.specs.Internal.Asked.{placed_looked, scoped}
 use Rattle.sarif_outside.specs.Marks.{both, is_outside_at}
 use Rattle.sarif_outside.specs.declared.asked.LookedRun.{LookedRun}
 
@@ -16,9 +16,9 @@ use Rattle.sarif_outside.specs.declared.asked.LookedRun.{LookedRun}
 pub asked_next : (change : GatedChange) (runs : List LookedRun) (spots : List Spot) (asked : List Bool) (n : ℕ)
     → (run : LookedRun) (none : Spot) (old new whole : List Bool)
     → n < length spots → n < length asked → (get_or spots n none).run < length runs
-    → run ≡ get_or runs (get_or spots n none).run run → run.change.now ≡ change
+    → run ≡ get_or runs (get_or spots n none).run run → scoped run.change ≡ change
     → new ≡ old
-    ++ (get_or asked n false && is_outside_of run.change.now (placed_looked run).run (result_at (placed_looked run).run (get_or spots n none).seq)) ∷ []
+    ++ (get_or asked n false && is_outside_of (scoped run.change) (placed_looked run).run (result_at (placed_looked run).run (get_or spots n none).seq)) ∷ []
     → old ++ both (drop n asked) (map (is_outside_at change (map placed_looked runs)) (drop n spots)) ≡ whole
     → new ++ both (drop (n + 1) asked) (map (is_outside_at change (map placed_looked runs)) (drop (n + 1) spots)) ≡ whole
 asked_next change runs spots asked n run none old new whole in_spots in_asked in_runs run_is looked pushed held =

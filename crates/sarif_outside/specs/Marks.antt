@@ -1,11 +1,16 @@
 -- Which results of runs are outside of a change, as a mark for each of them in order.
 use Rattle.std.specs.Prelude.{Bool, ◌&&◌, List, [], ◌∷◌, map}
 use Rattle.sarif_model.specs.Run.{result_at}
+use Rattle.sarif_change.specs.declared.spots.Scope.{Scope}
 use Rattle.sarif_runs.specs.Internal.Spots.{placed_at, spots_from}
 use Rattle.sarif_runs.specs.Placed.{Placed}
 use Rattle.sarif_runs.specs.declared.spots.Spot.{Spot}
 use Rattle.sarif_scope.specs.Inside.{is_outside_of}
 use Rattle.sarif_scope.specs.declared.gated.GatedChange.{GatedChange}
+
+-- the change, if results are compared with it in this scope
+abbrev pub in_scope : Scope → GatedChange → GatedChange
+in_scope scope change = record change { scope = scope }
 
 -- whether the result at a place is outside by its places
 abbrev pub is_outside_at : GatedChange → List Placed → Spot → Bool

@@ -4,19 +4,19 @@ ghost use Rattle.sarif_model.specs.Run.{results_of};
 ghost use Rattle.sarif_runs.specs.Internal.Opened.{placed_of};
 ghost use Rattle.sarif_scope.specs.Inside.{artifacts_in};
 
+use crate::scoped::ScopedChange;
 use sarif_change::KnownArtifacts;
 use sarif_runs::OpenedRun;
-use sarif_scope::GatedChange;
 
 /// A run, with what a change says about its artifacts.
 #[derive(Drop)]
 pub(crate) struct LookedRun<'w, 't: 'w, 'a: 't> {
     pub(crate) opened: &'w OpenedRun<'t, 'a>,
-    pub(crate) change: &'w GatedChange,
+    pub(crate) change: ScopedChange<'w>,
     pub(crate) known: KnownArtifacts<'w>,
-    ghost changed_are: { known.changed.now ≡ change.now.changed },
-    ghost roots_are: { known.roots.now ≡ change.now.roots },
-    ghost scope_is: { known.scope ≡ change.now.scope },
+    ghost changed_are: { known.changed.now ≡ change.change.now.changed },
+    ghost roots_are: { known.roots.now ≡ change.change.now.roots },
+    ghost scope_is: { known.scope ≡ change.scope },
     ghost artifacts_are: { known.artifacts ≡ artifacts_in (placed_of opened.now).run },
 }
 

@@ -3,5 +3,7 @@
 
 mod asked;
 mod marking;
+mod scoped;
 
-pub use marking::mark_outside;
+pub use marking::{mark_outside, mark_outside_in};
+pub use scoped::ScopedChange;

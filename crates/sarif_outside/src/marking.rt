@@ -8,9 +8,10 @@ ghost use Rattle.sarif_runs.specs.Internal.Spots.{spots_from, IsSpotOf};
 ghost use Rattle.sarif_scope.specs.Inside as inside;
 ghost use Rattle.sarif_scope.specs.declared.gated.GatedChange.{GatedChange as AnyChange};
 ghost use Rattle.sarif_outside.specs.Marks as said;
-ghost use Rattle.sarif_outside.specs.Internal.Asked.{AreLookedFor, looked_as, mark_by, placed_looked};
+ghost use Rattle.sarif_outside.specs.Internal.Asked.{AreLookedFor, looked_as, mark_by, placed_looked, scoped};
 
 use crate::asked::{AskedResult, LookedRun};
+use crate::scoped::ScopedChange;
 use sarif_runs::{OpenedRun, Spot, list_spots};
 use sarif_scope::{GatedChange, artifacts_in};
 use sarif_share::{Sharing, each_of, share_jobs};
@@ -24,14 +25,15 @@ const LEAST_SHARED: usize = 32;
 #[tactic(auto, using(crate::proofs::BareArtifacts::bare_artifacts))]
 fn look_at_run<'w, 't, 'a>(
     alloc: Global,
-    change: &'w GatedChange,
+    change: ScopedChange<'w>,
     opened: &'w OpenedRun<'t, 'a>,
 ) -> Result<LookedRun<'w, 't, 'a>, AllocError>
-    ensures { IfOk result (λ run. looked_as run ≡ (change.now, placed_of opened.now)) }
+    ensures { IfOk result (λ run. looked_as run ≡ (scoped change.entry, placed_of opened.now)) }
 {
     let artifacts = artifacts_in(alloc, opened.bare())?;
-    let roots = change.roots.as_slice();
-    let known = change
+    let gated = change.change;
+    let roots = gated.roots.as_slice();
+    let known = gated
         .changed
         .know_artifacts(alloc, roots, change.scope, artifacts)?;
     Ok(LookedRun {
@@ -44,11 +46,11 @@ fn look_at_run<'w, 't, 'a>(
 /// Each of these runs, with what a change says about its artifacts.
 fn look_at_each<'w, 't, 'a>(
     alloc: Global,
-    change: &'w GatedChange,
+    change: ScopedChange<'w>,
     runs: &'w [OpenedRun<'t, 'a>],
 ) -> Result<Vec<LookedRun<'w, 't, 'a>>, AllocError>
     ensures { IfOk result (λ made. map looked_as made.items
-        ≡ map (λ run. (change.now, placed_of run)) runs.now) }
+        ≡ map (λ run. (scoped change.entry, placed_of run)) runs.now) }
 {
     let mut made = Vec::with_capacity(alloc, runs.len())?;
     for opened in runs {
@@ -60,11 +62,11 @@ fn look_at_each<'w, 't, 'a>(
 /// Each of these runs, with what a change says about its artifacts.
 fn look_at_runs<'w, 't, 'a>(
     alloc: Global,
-    change: &'w GatedChange,
+    change: ScopedChange<'w>,
     runs: &'w [OpenedRun<'t, 'a>],
 ) -> Result<Vec<LookedRun<'w, 't, 'a>>, AllocError>
     ensures placed { IfOk result (λ made. map placed_looked made.items ≡ map placed_of runs.now) }
-    ensures looked { IfOk result (λ made. AreLookedFor change.now made.items) }
+    ensures looked { IfOk result (λ made. AreLookedFor (scoped change.entry) made.items) }
 {
     let made = look_at_each(alloc, change, runs)?;
     Ok(made)
@@ -79,7 +81,7 @@ fn push_asked<'l, 'w, 't, 'a>(
 ) -> Result<(), AllocError>
     requires { seq < length (results_of (placed_looked run.now).run) }
     ensures { OnOk result (map mark_by list.new.items ≡ map mark_by list.old.items
-        ++ (is_asked && inside.is_outside_of run.now.change.now (placed_looked run.now).run
+        ++ (is_asked && inside.is_outside_of (scoped run.now.change) (placed_looked run.now).run
         (result_at (placed_looked run.now).run seq)) ∷ []) }
 {
     if is_asked {
@@ -115,7 +117,7 @@ fn list_asked<'l, 'w, 't, 'a>(
 fn is_outside_in(alloc: Global, run: &LookedRun<'_, '_, '_>, seq: u32) -> Result<bool, AllocError>
     requires { seq < length (results_of (placed_looked run.now).run) }
     ensures { IfOk result (λ outside. outside
-        ≡ inside.is_outside_of run.now.change.now (placed_looked run.now).run
+        ≡ inside.is_outside_of (scoped run.now.change) (placed_looked run.now).run
         (result_at (placed_looked run.now).run seq)) }
 {
     let found = run.opened.result(alloc, seq)?;
@@ -156,8 +158,31 @@ fn mark_all<'s, 'l, 'w, 't, 'a, R: Threads + Sync>(
     Ok(marks)
 }
 
-/// Returns for each result of these runs whether it is requested, and outside of the change by its places. It doesn't
-/// read the others. At most `threads` threads do it, this one among them. Returns `AllocError` if memory runs out.
+/// Returns for each result of these runs whether it is requested, and outside of the change by its places, in the scope
+/// that comes with the change. It doesn't read the others. At most `threads` threads do it, this one among them. Returns
+/// `AllocError` if memory runs out.
+pub fn mark_outside_in<R: Threads + Sync>(
+    rt: &R,
+    alloc: Global,
+    change: &ScopedChange<'_>,
+    runs: &[OpenedRun<'_, '_>],
+    asked: &[bool],
+    threads: u32,
+) -> Result<Vec<bool>, AllocError>
+    requires few { length runs.now ≤ most_runs }
+    requires each { length asked.now ≡ length (spots_from 0 (map placed_of runs.now)) }
+    ensures { IfOk result (λ marks. marks.items
+        ≡ said.outside_marks (said.in_scope change.now.scope change.now.change.now)
+        (map placed_of runs.now) asked.now) }
+{
+    let spots = list_spots(alloc, runs)?;
+    let looked = look_at_runs(alloc, *change, runs)?;
+    let list = list_asked(alloc, &looked, &spots, asked)?;
+    let marks = mark_all(rt, alloc, &list, threads)?;
+    Ok(marks)
+}
+
+/// Does the same in the scope of the change.
 pub fn mark_outside<R: Threads + Sync>(
     rt: &R,
     alloc: Global,
@@ -171,9 +196,14 @@ pub fn mark_outside<R: Threads + Sync>(
     ensures { IfOk result (λ marks. marks.items
         ≡ said.outside_marks change.now (map placed_of runs.now) asked.now) }
 {
-    let spots = list_spots(alloc, runs)?;
-    let looked = look_at_runs(alloc, change, runs)?;
-    let list = list_asked(alloc, &looked, &spots, asked)?;
-    let marks = mark_all(rt, alloc, &list, threads)?;
+    let scope = change.scope;
+    let marks = mark_outside_in(
+        rt,
+        alloc,
+        &ScopedChange { change, scope },
+        runs,
+        asked,
+        threads,
+    )?;
     Ok(marks)
 }

@@ -9,7 +9,7 @@ use sarif_change::Scope;
 use sarif_inputs::{Opening, index_sources, open_sources};
 use sarif_model::Sequence;
 use sarif_options::Checks;
-use sarif_outside::mark_outside;
+use sarif_outside::{ScopedChange, mark_outside, mark_outside_in};
 use sarif_runs::{OpenedRun, list_spots};
 use sarif_scope::{GatedChange, read_change};
 use std::alloc::Global;
@@ -41,11 +41,12 @@ fn read(alloc: Global, seed: RandomState) -> Result<GatedChange, Fail> {
     }
 }
 
-/// The marks of six results. All but the third are requested.
+/// The marks of six results, in this scope if there is one. All but the third are requested.
 fn mark_six<R: Threads + Sync>(
     rt: &R,
     alloc: Global,
     change: &GatedChange,
+    scope: Option<Scope>,
     runs: &[OpenedRun<'_, '_>],
 ) -> Result<Vec<bool>, Fail>
     requires { length runs.now ≤ most_runs }
@@ -55,16 +56,22 @@ fn mark_six<R: Threads + Sync>(
     if spots.len() != asked.len() {
         return Err(Fail::new("six results are wanted"));
     }
-    let marks = mark_outside(rt, alloc, change, runs, &asked, 2)?;
+    let marks = match scope {
+        None => mark_outside(rt, alloc, change, runs, &asked, 2)?,
+        Some(scope) => {
+            mark_outside_in(rt, alloc, &ScopedChange { change, scope }, runs, &asked, 2)?
+        }
+    };
     Ok(marks)
 }
 
-/// The marks of the results of the log with this index.
+/// The marks of the results of the log with this index, in this scope if there is one.
 fn mark_indexed<R: Threads + Sync>(
     rt: &R,
     alloc: Global,
     seed: RandomState,
     change: &GatedChange,
+    scope: Option<Scope>,
     indexes: &[Result<Index<'_>, IndexFault>],
 ) -> Result<Vec<bool>, Fail>
     requires { (logs : List (List ℕ)) × (baselines : List (List ℕ))
@@ -76,29 +83,41 @@ fn mark_indexed<R: Threads + Sync>(
         seed,
     };
     match open_sources(rt, alloc, opening, indexes, 1, 1) {
-        Ok(runs) => mark_six(rt, alloc, change, &runs.current),
+        Ok(runs) => mark_six(rt, alloc, change, scope, &runs.current),
         Err(_) => Err(Fail::new("not opened")),
     }
 }
 
-/// The marks of the results of the log.
+/// The marks of the results of the log, in this scope if there is one.
 fn mark_read<R: Threads + Sync>(
     rt: &R,
     alloc: Global,
     seed: RandomState,
+    scope: Option<Scope>,
 ) -> Result<Vec<bool>, Fail> {
     let change = read(alloc, seed)?;
     let logs = vec![in alloc; LOG.as_bytes().to_vec(alloc)?]?;
     let mut scratches = vec![in alloc; Scratch::new(alloc)]?;
     let indexes = index_sources(rt, alloc, &logs, &[], &mut scratches, 1)?;
-    mark_indexed(rt, alloc, seed, &change, &indexes)
+    mark_indexed(rt, alloc, seed, &change, scope, &indexes)
 }
 
 #[test]
 fn requested_results_outside_are_marked(rt: HostRuntime) -> Result<(), Fail> {
     let seed = RandomState::new(&rt)?;
-    let marks = mark_read(&rt, rt.alloc(), seed)?;
+    let marks = mark_read(&rt, rt.alloc(), seed, None)?;
     let wanted = [false, true, false, false, true, true];
+    assert_eq!(rt; marks.as_slice(), wanted.as_slice());
+    Ok(())
+}
+
+#[test]
+fn results_in_a_changed_file_are_not_marked_in_the_scope_of_files(
+    rt: HostRuntime,
+) -> Result<(), Fail> {
+    let seed = RandomState::new(&rt)?;
+    let marks = mark_read(&rt, rt.alloc(), seed, Some(Scope::Files))?;
+    let wanted = [false, false, false, false, true, false];
     assert_eq!(rt; marks.as_slice(), wanted.as_slice());
     Ok(())
 }

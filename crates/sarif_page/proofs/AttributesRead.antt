@@ -3,6 +3,7 @@ use Rattle.std.proofs.Common.{◌≡◌, ◌+◌, ◌==◌, ◌++◌, ℕ, Bool,
 use Rattle.std.proofs.lemmas.List.Sums.{sum_by-cons}
 use Rattle.sarif_model.specs.Level.{level_name}
 use Rattle.sarif_model.specs.State.{state_name}
+use Rattle.sarif_counts.specs.Impacts.{is_hit}
 use Rattle.sarif_findings.specs.declared.finding.Finding.{Finding}
 use Rattle.sarif_findings.specs.Finding.{numbered, place_path}
 use Rattle.sarif_shown.specs.declared.escaping.Escaping.TheVariants.{Page}
@@ -94,7 +95,7 @@ data_reads level state hit l s h = reads_to (codes ">") (λ word.
 front_reads : (f : Finding) → Reads (row_front f) (data_attributes f)
 unfolding row_front
 front_reads f =
-    data_reads (level_name f.level) (state_name f.state) (hit_word f.hit) (level_none f.level).quoted (state_none f.state).quoted (hit_none f.hit).quoted
+    data_reads (level_name f.level) (state_name f.state) (hit_word (is_hit f.impact)) (level_none f.level).quoted (state_none f.state).quoted (hit_none (is_hit f.impact)).quoted
 
 -- ---- links
 

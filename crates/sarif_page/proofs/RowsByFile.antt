@@ -7,11 +7,14 @@ use Rattle.std.proofs.lemmas.List.Folds.{list_any-append}
 use Rattle.std.proofs.lemmas.List.Sums.{sum_by-append, sum_by-cons}
 use Rattle.sarif_model.specs.declared.kinds.Level.TheVariants.{NoLevel, Note, Warning, Error}
 use Rattle.sarif_model.specs.Level.{severity}
+use Rattle.sarif_counts.specs.Impacts.{is_hit}
+use Rattle.sarif_counts.specs.declared.gate_verdict.Impact.{Impact}
+use Rattle.sarif_counts.specs.declared.gate_verdict.Impact.TheVariants as impacts
 use Rattle.sarif_findings.specs.declared.finding.Finding.{Finding}
 use Rattle.sarif_page.specs.Internal.ByFile.{has_file}
 use Rattle.sarif_page.specs.HtmlLaws.{goes_on, are_together}
 use Rattle.sarif_page.specs.HtmlRows.{file_of, is_in, files_of, by_file, most_rows, hit_rows, other_rows, page_rows}
-use Rattle.sarif_shown.specs.Listed.{by_level, hits_among, is_one, of_level, others_among}
+use Rattle.sarif_shown.specs.Listed.{by_level, does, doing, hits_among, of_level, others_among, weight}
 use Rattle.sarif_shown.proofs.ListedMore.{counted_listed}
 use Rattle.sarif_page.proofs.FilesMore.{files_seen, others_stay, text_same, text_self, texts_swap}
 
@@ -63,18 +66,52 @@ all_levels p fs h =
     (all_append p (of_level Note fs) (of_level NoLevel fs) (all_filter p (λ f. severity f.level == severity Note) fs h)
     (all_filter p (λ f. severity f.level == severity NoLevel) fs h)))
 
-pub rows_are_hits : (fs : List Finding) → list_all (λ f. f.hit) (hit_rows fs) ≡ true
+-- what all that do this to the gate are, they are too if they are sorted by level
+all_doing : (i : Impact) (p : Finding → Bool) → ((f : Finding) → does i f ≡ true → p f ≡ true) → (fs : List Finding)
+    → list_all p (by_level (doing i fs)) ≡ true
+all_doing i p sure fs = all_levels p (doing i fs) (kept fs)
+  where
+    kept_by : (b : Bool) (f : Finding) (gs : List Finding) → does i f ≡ b → list_all p gs ≡ true → list_all p (cond b (f ∷ gs) gs) ≡ true
+    kept_by true f gs e rest = and_from (p f) (list_all p gs) (sure f e) rest
+    kept_by false f gs e rest = rest
+
+    kept : (gs : List Finding) → list_all p (doing i gs) ≡ true
+    kept [] = refl
+    kept (f ∷ gs) = kept_by (does i f) f (doing i gs) refl (kept gs)
+
+stops_hit : (i : Impact) → (weight i == 2) ≡ true → is_hit i ≡ true
+stops_hit impacts.Stops e = refl
+stops_hit impacts.Hit e = refl
+stops_hit impacts.None e = e
+
+hit_hit : (i : Impact) → (weight i == 1) ≡ true → is_hit i ≡ true
+hit_hit impacts.Stops e = refl
+hit_hit impacts.Hit e = refl
+hit_hit impacts.None e = e
+
+none_other : (i : Impact) → (weight i == 0) ≡ true → not (is_hit i) ≡ true
+none_other impacts.Stops e = e
+none_other impacts.Hit e = e
+none_other impacts.None e = refl
+
+all_hits : (fs : List Finding) → list_all (λ f. is_hit f.impact) (hits_among fs) ≡ true
+all_hits fs =
+    all_append (λ f. is_hit f.impact) (by_level (doing impacts.Stops fs)) (by_level (doing impacts.Hit fs))
+    (all_doing impacts.Stops (λ f. is_hit f.impact) (λ f e. stops_hit f.impact e) fs)
+    (all_doing impacts.Hit (λ f. is_hit f.impact) (λ f e. hit_hit f.impact e) fs)
+
+pub rows_are_hits : (fs : List Finding) → list_all (λ f. is_hit f.impact) (hit_rows fs) ≡ true
 unfolding hit_rows
 rows_are_hits fs =
-    all_take (λ f. f.hit) most_rows (by_file (hits_among fs)) (all_files (λ f. f.hit) (hits_among fs) (files_of (hits_among fs))
-    (all_levels (λ f. f.hit) (filter (is_one true) fs) (all_kept (is_one true) fs)))
+    all_take (λ f. is_hit f.impact) most_rows (by_file (hits_among fs))
+    (all_files (λ f. is_hit f.impact) (hits_among fs) (files_of (hits_among fs)) (all_hits fs))
 
-pub rows_are_others : (fs : List Finding) → list_all (λ f. not f.hit) (other_rows fs) ≡ true
+pub rows_are_others : (fs : List Finding) → list_all (λ f. not (is_hit f.impact)) (other_rows fs) ≡ true
 unfolding other_rows
 rows_are_others fs =
-    all_take (λ f. not f.hit) (most_rows - length (hit_rows fs)) (by_file (others_among fs))
-    (all_files (λ f. not f.hit) (others_among fs) (files_of (others_among fs))
-    (all_levels (λ f. not f.hit) (filter (is_one false) fs) (all_kept (is_one false) fs)))
+    all_take (λ f. not (is_hit f.impact)) (most_rows - length (hit_rows fs)) (by_file (others_among fs))
+    (all_files (λ f. not (is_hit f.impact)) (others_among fs) (files_of (others_among fs))
+    (all_doing impacts.None (λ f. not (is_hit f.impact)) (λ f e. none_other f.impact e) fs))
 
 -- ---- each file's rows together
 

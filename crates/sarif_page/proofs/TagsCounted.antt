@@ -10,6 +10,7 @@ use Rattle.sarif_model.specs.declared.kinds.State.{State}
 use Rattle.sarif_model.specs.declared.kinds.State.TheVariants.{New, Unchanged, Updated, Absent}
 use Rattle.sarif_model.specs.Level.{level_name}
 use Rattle.sarif_model.specs.State.{state_name}
+use Rattle.sarif_counts.specs.Impacts.{is_hit}
 use Rattle.sarif_shown.specs.declared.escaping.Escaping.TheVariants.{Page}
 use Rattle.sarif_findings.specs.declared.code.Code.{Code}
 use Rattle.sarif_findings.specs.declared.finding.Finding.{Finding}
@@ -101,7 +102,7 @@ data_marks l s h =
 
 front_marks : (f : Finding) → Marks 1 6 (row_front f)
 unfolding row_front
-front_marks f = data_marks (level_none f.level) (state_none f.state) (hit_none f.hit)
+front_marks f = data_marks (level_none f.level) (state_none f.state) (hit_none (is_hit f.impact))
 
 -- a rule with its breaks
 break_marks : (b : Bool) → Marks (if b then 1 else 0) 0 (break_if b)

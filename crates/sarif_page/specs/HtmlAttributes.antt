@@ -2,6 +2,7 @@
 use Rattle.std.specs.Prelude.{ℕ, ◌||◌, ◌==◌, List, [], ◌∷◌, ◌++◌, Option, Some, None, codes, if◌then◌else◌}
 use Rattle.sarif_model.specs.Level.{level_name}
 use Rattle.sarif_model.specs.State.{state_name}
+use Rattle.sarif_counts.specs.Impacts.{is_hit}
 use Rattle.sarif_findings.specs.declared.finding.Finding.{Finding}
 use Rattle.sarif_shown.specs.declared.escaping.Escaping.TheVariants.{Page}
 use Rattle.sarif_shown.specs.Escaped.{escaped}
@@ -36,7 +37,7 @@ attributes_in text = attributes_from [] None text
 abbrev pub data_attributes : Finding → List Attribute
 data_attributes f =
     (codes "data-level=", level_name f.level) ∷ (codes "data-state=", state_name f.state)
-    ∷ (codes "data-hit=", hit_word f.hit) ∷ []
+    ∷ (codes "data-hit=", hit_word (is_hit f.impact)) ∷ []
 
 abbrev pub title_attributes : Option (List ℕ) → List Attribute
 title_attributes None = []

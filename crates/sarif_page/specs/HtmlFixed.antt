@@ -25,18 +25,32 @@ body_begin =
     codes "<header>\n" ++ (
     codes "<div>\n")))
 
--- the table of counts, up to its rows
+-- the table of counts, up to the end of its caption
 unfoldable pub counts_begin : List ℕ
 counts_begin =
     codes "</div>\n" ++ (
     codes "<div>\n" ++ (
     codes "<table class=\"counts\" rules=\"rows\" cellpadding=\"4\">\n" ++ (
-    codes "<caption>All results by state and level; hits in bold</caption>\n" ++ (
+    codes "<caption>All results by state and level")))
+
+-- after its caption, up to its rows
+unfoldable pub counts_head : List ℕ
+counts_head =
+    codes "</caption>\n" ++ (
     codes
     "<thead><tr><th scope=\"col\" align=\"left\">state</th><th scope=\"col\">error</th><th scope=\"col\">warning</th><th scope=\"col\">note</th><th scope=\"col\">none</th><th scope=\"col\">suppressed</th></tr></thead>\n" ++ (
-    codes "<tbody align=\"right\">\n")))))
+    codes "<tbody align=\"right\">\n"))
 
--- after the rows of the counts
+-- the table of conditions, up to its rows
+unfoldable pub conditions_begin : List ℕ
+conditions_begin =
+    codes "<table class=\"counts\" rules=\"rows\" cellpadding=\"4\">\n" ++ (
+    codes "<caption>Conditions of the policy</caption>\n" ++ (
+    codes
+    "<thead><tr><th scope=\"col\" align=\"left\">condition</th><th scope=\"col\">verdict</th><th scope=\"col\">hits</th><th scope=\"col\">limit</th><th scope=\"col\">outside</th></tr></thead>\n" ++ (
+    codes "<tbody align=\"right\">\n")))
+
+-- after the rows of the counts, and of the conditions
 unfoldable pub counts_end : List ℕ
 counts_end =
     codes "</tbody>\n" ++ (

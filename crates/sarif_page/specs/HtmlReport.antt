@@ -1,5 +1,5 @@
 -- The page: the verdict, the counts, and the first reported results.
-use Rattle.std.specs.Prelude.{ℕ, ◌+◌, Bool, true, false, ◌&&◌, ◌||◌, ◌==◌, List, [], ◌∷◌, ◌++◌, Option, length, codes, flat_map, map, nat_lt, if◌then◌else◌}
+use Rattle.std.specs.Prelude.{ℕ, ◌+◌, Bool, true, false, ◌&&◌, ◌||◌, ◌==◌, List, [], ◌∷◌, ◌++◌, Option, Some, None, length, codes, flat_map, map, nat_lt, if◌then◌else◌}
 use Rattle.std.specs.List.{list_any}
 use Rattle.std.specs.Fmt.{decimal}
 use Rattle.sarif_model.specs.declared.kinds.Level.{Level}
@@ -14,33 +14,45 @@ use Rattle.sarif_counts.specs.Counts.{same_state}
 use Rattle.sarif_options.specs.Policy.{are_hits}
 use Rattle.sarif_counts.specs.Hits.{Count, verdict_name}
 use Rattle.sarif_counts.specs.Tally.{same_level}
+use Rattle.sarif_conditions.specs.declared.facts.ConditionFacts.{ConditionFacts}
+use Rattle.sarif_conditions.specs.declared.facts.PolicyFacts.{PolicyFacts}
+use Rattle.sarif_shown.specs.ConditionRow.{condition_cells}
 use Rattle.sarif_shown.specs.CountRow.{numbers_of}
 use Rattle.sarif_shown.specs.declared.count_row.CountRow.{CountRow}
 use Rattle.sarif_findings.specs.declared.finding.Finding.{Finding}
+use Rattle.sarif_shown.specs.declared.escaping.Escaping.TheVariants.{Page}
+use Rattle.sarif_shown.specs.declared.noted.Noted.{Noted}
+use Rattle.sarif_shown.specs.declared.stopping.Stopping.{Stopping}
+use Rattle.sarif_shown.specs.Escaped.{escaped}
 use Rattle.sarif_shown.specs.Facts.{Facts}
-use Rattle.sarif_scope.specs.Told.{hits_told, outside_told, verdict_told}
+use Rattle.sarif_shown.specs.Ruled.{gate_ending, gate_hits, gate_stopping, gate_verdict, noted_in, unshown_results}
 use Rattle.sarif_scope.specs.declared.facts.ChangeFacts.{ChangeFacts}
-use Rattle.sarif_page.specs.HtmlFixed.{page_begin, title_end, body_begin, counts_begin, counts_end, filters_begin, filters_end, header_end, nothing_reported, page_end}
+use Rattle.sarif_page.specs.HtmlFixed.{page_begin, title_end, body_begin, conditions_begin, counts_begin, counts_head, counts_end, filters_begin, filters_end, header_end, nothing_reported, page_end}
 use Rattle.sarif_page.specs.HtmlGroups.{Part, most_open, section_if}
 use Rattle.sarif_page.specs.HtmlRows.{Tables, groups_of, tables_of, without_row}
-use Rattle.sarif_page.specs.HtmlStyle.{style}
-use Rattle.sarif_page.specs.HtmlWords.{reason, hits_heading, others_text}
-use Rattle.sarif_shown.specs.Sentences.{accept_text, entries_text, gate_end, gate_text, hits_text, more_text, outside_text, runs_text, unshown_text}
-use Rattle.sarif_shown.specs.Unshown.{unshown_number}
+use Rattle.sarif_page.specs.HtmlStyle.{style, tables_style}
+use Rattle.sarif_page.specs.HtmlWords.{reason_by, hits_heading, others_text}
+use Rattle.sarif_shown.specs.Sentences.{accept_text, entries_text, filters_text, gate_text, hits_text, more_text, outside_text, runs_text, unchecked_text, unshown_text}
 
 -- ---- the verdict
 
-unfoldable pub page_head : Verdict → ℕ → ℕ → List ℕ
-page_head verdict hits max =
-    page_begin ++ (gate_text verdict hits max ++ (title_end ++ (style ++ body_begin)))
+-- the style of the table of conditions, if there is one
+abbrev pub style_by : Option PolicyFacts → List ℕ
+style_by None = []
+style_by (Some ruling) = tables_style
 
-unfoldable pub heading : Verdict → ℕ → ℕ → List ℕ
-heading verdict hits max =
+unfoldable pub page_head : Option PolicyFacts → Verdict → List ℕ → List ℕ
+page_head ruling verdict end =
+    page_begin ++ (gate_text verdict end ++ (title_end ++ (style ++ (style_by ruling ++ body_begin))))
+
+unfoldable pub heading : Verdict → List ℕ → List ℕ
+heading verdict end =
     codes "<h1 class=\"" ++ (verdict_name verdict ++ (codes "\">Gate: " ++ (verdict_name verdict
-    ++ (codes "<span>" ++ (gate_end hits max ++ codes "</span></h1>\n")))))
+    ++ (codes "<span>" ++ (end ++ codes "</span></h1>\n")))))
 
-unfoldable pub reason_line : Policy → Option ChangeFacts → List ℕ
-reason_line policy change = codes "<p>" ++ (reason policy change ++ codes "</p>\n")
+unfoldable pub reason_line : Option PolicyFacts → Policy → Option ChangeFacts → List ℕ
+reason_line ruling policy change =
+    codes "<p>" ++ (reason_by ruling policy change ++ codes "</p>\n")
 
 -- links to the two lists, if there are both
 unfoldable pub links_to : ℕ → ℕ → List ℕ
@@ -64,47 +76,73 @@ abbrev pub number_cell : Bool → ℕ → List ℕ
 number_cell true n = codes "<td class=\"on\">" ++ (strong n ++ codes "</td>")
 number_cell false n = codes "<td>" ++ (decimal n ++ codes "</td>")
 
-unfoldable pub level_cells : Policy → State → CountRow → List ℕ
-level_cells policy state row =
-    number_cell (are_hits policy state Error) row.error
-    ++ (number_cell (are_hits policy state Warning) row.warning
-    ++ (number_cell (are_hits policy state Note) row.note
-    ++ number_cell (are_hits policy state NoLevel) row.none))
+-- whether the results of this state and level are marked as hits: none are without options that say so
+abbrev pub is_on : Option Policy → State → Level → Bool
+is_on None state level = false
+is_on (Some policy) state level = are_hits policy state level
+
+unfoldable pub level_cells : Option Policy → State → CountRow → List ℕ
+level_cells marks state row =
+    number_cell (is_on marks state Error) row.error
+    ++ (number_cell (is_on marks state Warning) row.warning
+    ++ (number_cell (is_on marks state Note) row.note
+    ++ number_cell (is_on marks state NoLevel) row.none))
 
 -- a state's active results by level, and its suppressed ones
-abbrev pub row_of : Policy → State → CountRow → List ℕ
-row_of policy state row =
+abbrev pub row_of : Option Policy → State → CountRow → List ℕ
+row_of marks state row =
     codes "<tr><th scope=\"row\" align=\"left\">" ++ (state_name state
-    ++ (codes "</th>" ++ (level_cells policy state row
+    ++ (codes "</th>" ++ (level_cells marks state row
     ++ (number_cell false row.suppressed ++ codes "</tr>\n"))))
 
-unfoldable pub count_row : Policy → State → (Level → Bool → ℕ) → List ℕ
-count_row policy state numbers = row_of policy state (numbers_of numbers)
+unfoldable pub count_row : Option Policy → State → (Level → Bool → ℕ) → List ℕ
+count_row marks state numbers = row_of marks state (numbers_of numbers)
 
-unfoldable pub counts_table : Count → Policy → List ℕ
-counts_table count policy =
-    counts_begin ++ (count_row policy New (count New)
-    ++ (count_row policy Unchanged (count Unchanged)
-    ++ (count_row policy Updated (count Updated)
-    ++ (count_row policy Absent (count Absent) ++ counts_end))))
+-- the end of the caption, if cells are marked
+abbrev pub caption_end : Option Policy → List ℕ
+caption_end None = []
+caption_end (Some policy) = codes "; hits in bold"
+
+unfoldable pub counts_table : Count → Option Policy → List ℕ
+counts_table count marks =
+    counts_begin ++ (caption_end marks ++ (counts_head
+    ++ (count_row marks New (count New)
+    ++ (count_row marks Unchanged (count Unchanged)
+    ++ (count_row marks Updated (count Updated)
+    ++ (count_row marks Absent (count Absent) ++ counts_end))))))
+
+-- the options by which cells are marked: with a policy there are none, since a condition asks more than a state and a level
+abbrev pub marks_by : Option PolicyFacts → Policy → Option Policy
+marks_by None policy = Some policy
+marks_by (Some ruling) policy = None
 
 -- a sentence that the reader has to know
 unfoldable pub mind : List ℕ → List ℕ
 mind sentence = codes "<p class=\"mind\">" ++ (sentence ++ codes "</p>\n")
 
-abbrev pub runs_line : ℕ → List ℕ
-runs_line without = if without == 0 then [] else mind (runs_text without)
+-- a sentence on this number, if it isn't 0
+abbrev pub mind_if : ℕ → List ℕ → List ℕ
+mind_if n sentence = if n == 0 then [] else mind sentence
 
-abbrev pub entries_line : ℕ → List ℕ
-entries_line unused = if unused == 0 then [] else mind (entries_text unused)
+-- what wasn't looked at
+unfoldable pub minds : Noted → List ℕ
+minds n =
+    mind_if n.without (runs_text n.without) ++ (mind_if n.unused (entries_text n.unused)
+    ++ (mind_if n.filters (filters_text n.filters) ++ (mind_if n.outside (outside_text n.outside)
+    ++ mind_if n.unchecked (unchecked_text n.unchecked))))
 
-abbrev pub outside_line : ℕ → List ℕ
-outside_line outside = if outside == 0 then [] else mind (outside_text outside)
+-- ---- the conditions
 
--- runs without results, unused entries, and results outside of the change
-unfoldable pub minds : ℕ → ℕ → ℕ → List ℕ
-minds without unused outside =
-    runs_line without ++ (entries_line unused ++ outside_line outside)
+unfoldable pub condition_row : ConditionFacts → List ℕ
+condition_row c =
+    codes "<tr><th scope=\"row\" align=\"left\">" ++ (escaped Page c.name ++ (codes "</th>"
+    ++ (condition_cells (codes "<td>") (codes "</td>") c ++ codes "</tr>\n")))
+
+-- a row for each condition, if there is a policy
+unfoldable pub conditions_table : Option PolicyFacts → List ℕ
+conditions_table None = []
+conditions_table (Some ruling) =
+    conditions_begin ++ (flat_map condition_row ruling.conditions ++ counts_end)
 
 -- ---- the filters
 
@@ -167,10 +205,10 @@ abbrev pub others_room : List Finding → ℕ
 others_room hits = if length hits == 0 then most_open else 0
 
 -- the list of hits
-abbrev pub hits_part : Verdict → ℕ → Tables → Part
-hits_part verdict max tables = record {
+abbrev pub hits_part : Stopping → ℕ → Tables → Part
+hits_part stopping max tables = record {
   name = codes "hits";
-  heading = hits_heading verdict tables.all_hits max;
+  heading = hits_heading stopping tables.marked tables.all_hits max;
   link = tables.link;
   room = most_open;
   number = 1;
@@ -190,17 +228,17 @@ others_part tables = record {
   all_rules = tables.all_rules;
 }
 
-unfoldable pub sections : Verdict → ℕ → Tables → List ℕ
-sections verdict max tables =
-    section_if (hits_part verdict max tables) tables.hits ++ section_if (others_part tables) tables.others
+unfoldable pub sections : Stopping → ℕ → Tables → List ℕ
+sections stopping max tables =
+    section_if (hits_part stopping max tables) tables.hits ++ section_if (others_part tables) tables.others
 
 -- how many reported results are not shown, if there are any
 unfoldable pub unshown_line : ℕ → List ℕ
 unshown_line unshown = if unshown == 0 then [] else mind (unshown_text unshown)
 
-unfoldable pub results_of : Verdict → ℕ → Tables → ℕ → List ℕ
-results_of verdict max tables unshown =
-    filters_of (tables.hits ++ tables.others) ++ (sections verdict max tables
+unfoldable pub results_of : Stopping → ℕ → Tables → ℕ → List ℕ
+results_of stopping max tables unshown =
+    filters_of (tables.hits ++ tables.others) ++ (sections stopping max tables
     ++ (rest_line unshown tables ++ unshown_line unshown))
 
 -- a sentence that says how something is done
@@ -214,21 +252,22 @@ accept_line hits =
 
 -- ---- the page
 
-unfoldable pub top_of : Verdict → ℕ → Policy → Option ChangeFacts → List ℕ
-top_of verdict hits policy change =
-    page_head verdict hits policy.max
-    ++ (heading verdict hits policy.max ++ reason_line policy change)
+unfoldable pub top_of : Facts → List ℕ
+top_of facts =
+    page_head facts.ruling (gate_verdict facts) (gate_ending facts)
+    ++ (heading (gate_verdict facts) (gate_ending facts)
+    ++ reason_line facts.ruling facts.policy facts.change)
 
-unfoldable pub page_of : Facts → Verdict → ℕ → Tables → List ℕ
-page_of facts verdict hits tables =
-    top_of verdict hits facts.policy facts.change
-    ++ (links tables ++ (counts_table facts.count facts.policy
-    ++ (minds facts.without facts.unused (outside_told facts.change)
-    ++ (header_end ++ (results_of verdict facts.policy.max tables
-    (unshown_number facts.change facts.show facts.count facts.policy)
-    ++ (accept_line hits ++ page_end))))))
+-- below the counts
+unfoldable pub below_counts : Facts → List ℕ
+below_counts facts = minds (noted_in facts) ++ (conditions_table facts.ruling ++ header_end)
+
+unfoldable pub page_of : Facts → Tables → List ℕ
+page_of facts tables =
+    top_of facts ++ (links tables
+    ++ (counts_table facts.count (marks_by facts.ruling facts.policy) ++ (below_counts facts
+    ++ (results_of (gate_stopping facts) facts.policy.max tables (unshown_results facts)
+    ++ (accept_line (gate_hits facts) ++ page_end)))))
 
 unfoldable pub html_of : Facts → List ℕ
-html_of facts =
-    page_of facts (verdict_told facts.change facts.count facts.policy)
-    (hits_told facts.change facts.count facts.policy) (tables_of facts.link facts.findings)
+html_of facts = page_of facts (tables_of facts.link facts.findings)

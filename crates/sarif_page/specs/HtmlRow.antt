@@ -4,6 +4,7 @@ use Rattle.std.specs.Prelude.{ℕ, Bool, true, false, List, [], ◌∷◌, ◌++
 use Rattle.std.specs.Fmt.{decimal}
 use Rattle.sarif_model.specs.Level.{level_name}
 use Rattle.sarif_model.specs.State.{state_name}
+use Rattle.sarif_counts.specs.Impacts.{is_hit}
 use Rattle.sarif_findings.specs.declared.finding.Finding.{Finding}
 use Rattle.sarif_findings.specs.Finding.{numbered, place_path}
 use Rattle.sarif_shown.specs.declared.escaping.Escaping.TheVariants.{Page}
@@ -37,7 +38,7 @@ row_data level state hit =
     ++ (codes "\" data-state=\"" ++ (state ++ (codes "\" data-hit=\"" ++ (hit ++ codes "\">")))))
 
 unfoldable pub row_front : Finding → List ℕ
-row_front f = row_data (level_name f.level) (state_name f.state) (hit_word f.hit)
+row_front f = row_data (level_name f.level) (state_name f.state) (hit_word (is_hit f.impact))
 
 -- a path with its place in it; the path is a separate element, since the heading of the group has it too
 abbrev pub spot_at : List ℕ → List ℕ → List ℕ

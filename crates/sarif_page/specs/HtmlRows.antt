@@ -1,8 +1,10 @@
 -- The rows of a page: hits before others, and in each of the two lists by file. The rows of a file are in groups.
 use Rattle.std.specs.Prelude.{ℕ, zero, suc, ◌+◌, ◌-◌, Bool, not, List, [], ◌∷◌, ◌++◌, length, take, drop, bytes_eq, flat_map, unwrap_or, Option, ◌==◌, if◌then◌else◌}
-use Rattle.std.specs.List.{filter}
+use Rattle.std.specs.List.{count_by, filter}
 use Rattle.sarif_findings.specs.declared.finding.Finding.{Finding}
 use Rattle.sarif_shown.specs.Listed.{hits_among, others_among}
+use Rattle.sarif_shown.specs.Stopping.{stops}
+use Rattle.sarif_shown.specs.declared.stopping.Stopping.TheVariants.{MarkedHit}
 use Rattle.sarif_page.specs.HtmlRules.{Rule, rules_of, shown_rules}
 
 -- the path of a finding; the empty string if there is no path, since no path is empty
@@ -50,6 +52,8 @@ pub record Tables : Type 0 where
   pub others : List Finding
   pub all_hits : ℕ
   pub all_others : ℕ
+  -- how many hits are of conditions that fail
+  pub marked : ℕ
   pub rules : List Rule
   pub all_rules : ℕ
   -- the template by which places are linked, if they are
@@ -61,6 +65,7 @@ tables_of link findings = record {
   others = other_rows findings;
   all_hits = length (hits_among findings);
   all_others = length (others_among findings);
+  marked = count_by (λ f. stops MarkedHit f.impact) findings;
   rules = shown_rules (first_list findings);
   all_rules = length (rules_of (first_list findings));
   link = link;

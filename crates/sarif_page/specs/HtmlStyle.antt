@@ -38,6 +38,10 @@ style_top =
     codes ".counts tr>:first-child{padding-left:0;text-align:left}\n" ++ (
     codes ".counts .on{outline:1px solid var(--edge);outline-offset:-2px;background:var(--mark)}\n")))))))))))))))))))))))))
 
+-- the style of a second table in the header: it follows the other one
+unfoldable pub tables_style : List ℕ
+tables_style = codes "<style>.counts~.counts{margin-top:1rem}</style>\n"
+
 -- the boxes, the index of rules and the groups
 unfoldable pub style_groups : List ℕ
 style_groups =

@@ -1,5 +1,5 @@
 -- The sentences and the headings of a page.
-use Rattle.std.specs.Prelude.{ℕ, List, [], ◌∷◌, ◌++◌, Option, Some, None, codes, if◌then◌else◌}
+use Rattle.std.specs.Prelude.{ℕ, List, [], ◌∷◌, ◌++◌, ◌==◌, Option, Some, None, codes, if◌then◌else◌}
 use Rattle.std.specs.Fmt.{decimal}
 use Rattle.sarif_model.specs.declared.kinds.Level.{Level}
 use Rattle.sarif_model.specs.declared.kinds.Level.TheVariants.{NoLevel, Note, Warning, Error}
@@ -8,12 +8,13 @@ use Rattle.sarif_model.specs.declared.kinds.State.TheVariants.{New, Unchanged, U
 use Rattle.sarif_model.specs.State.{state_name}
 use Rattle.sarif_options.specs.declared.policy.Policy.{Policy}
 use Rattle.sarif_options.specs.declared.policy.States.{States}
-use Rattle.sarif_counts.specs.declared.gate_verdict.Verdict.{Verdict}
-use Rattle.sarif_counts.specs.declared.gate_verdict.Verdict.TheVariants.{Pass, Fail}
+use Rattle.sarif_conditions.specs.declared.facts.PolicyFacts.{PolicyFacts}
 use Rattle.sarif_options.specs.Policy.{is_listed}
 use Rattle.sarif_change.specs.declared.spots.Scope.{Scope}
 use Rattle.sarif_change.specs.declared.spots.Scope.TheVariants.{Lines, Files}
 use Rattle.sarif_scope.specs.declared.facts.ChangeFacts.{ChangeFacts}
+use Rattle.sarif_shown.specs.declared.stopping.Stopping.{Stopping}
+use Rattle.sarif_shown.specs.declared.stopping.Stopping.TheVariants.{EachHit, NoHit, MarkedHit}
 use Rattle.sarif_shown.specs.Sentences.{counted, hits_text}
 
 -- ---- what a hit is
@@ -64,13 +65,36 @@ hit_is (state ∷ states) least change =
 unfoldable pub reason : Policy → Option ChangeFacts → List ℕ
 reason policy change = hit_is (listed_states policy.states) policy.fail_on change
 
+-- the same with a policy, if there is one
+abbrev pub reason_by : Option PolicyFacts → Policy → Option ChangeFacts → List ℕ
+reason_by None policy change = reason policy change
+reason_by (Some ruling) policy change =
+    codes "A hit is a result that meets a condition of the policy and is not suppressed."
+
 -- ---- the headings of the tables
 
+-- all hits stop the change
+abbrev pub all_stop : ℕ → List ℕ
+all_stop hits = counted hits (codes " hit stops this change") (codes " hits stop this change")
+
+-- some of the hits do
+abbrev pub some_stop : ℕ → ℕ → List ℕ
+some_stop marked hits =
+    hits_text hits ++ (codes ", "
+    ++ counted marked (codes " of them stops this change") (codes " of them stop this change"))
+
+-- the hits of a policy, of which so many stop the change
+abbrev pub marked_heading : ℕ → ℕ → List ℕ
+marked_heading marked hits =
+    if marked == 0 then hits_text hits ++ codes ", within the limits"
+    else (if marked == hits then all_stop hits else some_stop marked hits)
+
 -- the hits, and whether they stop the change
-abbrev pub hits_heading : Verdict → ℕ → ℕ → List ℕ
-hits_heading Fail hits max = counted hits (codes " hit stops this change") (codes " hits stop this change")
-hits_heading Pass hits max =
+abbrev pub hits_heading : Stopping → ℕ → ℕ → ℕ → List ℕ
+hits_heading EachHit marked hits max = all_stop hits
+hits_heading NoHit marked hits max =
     hits_text hits ++ (codes ", within the " ++ (decimal max ++ codes " allowed"))
+hits_heading MarkedHit marked hits max = marked_heading marked hits
 
 abbrev pub others_text : ℕ → List ℕ
 others_text others = counted others (codes " other result") (codes " other results")

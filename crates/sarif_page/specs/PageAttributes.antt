@@ -1,5 +1,5 @@
 -- The attributes of the whole page. Text that is the same on each page is read by itself.
-use Rattle.std.specs.Prelude.{ℕ, ◌+◌, Bool, true, false, ◌&&◌, ◌||◌, ◌==◌, List, [], ◌∷◌, ◌++◌, length, codes, flat_map, map, nat_lt, if◌then◌else◌}
+use Rattle.std.specs.Prelude.{ℕ, ◌+◌, Bool, true, false, ◌&&◌, ◌||◌, ◌==◌, List, [], ◌∷◌, ◌++◌, Option, Some, None, length, codes, flat_map, map, nat_lt, if◌then◌else◌}
 use Rattle.sarif_model.specs.declared.kinds.Level.{Level}
 use Rattle.sarif_model.specs.declared.kinds.Level.TheVariants.{NoLevel, Note, Warning, Error}
 use Rattle.sarif_model.specs.declared.kinds.State.{State}
@@ -7,15 +7,17 @@ use Rattle.sarif_model.specs.declared.kinds.State.TheVariants.{New, Unchanged, U
 use Rattle.sarif_model.specs.Level.{level_name}
 use Rattle.sarif_model.specs.State.{state_name}
 use Rattle.sarif_options.specs.declared.policy.Policy.{Policy}
-use Rattle.sarif_options.specs.Policy.{are_hits}
 use Rattle.sarif_counts.specs.declared.gate_verdict.Verdict.{Verdict}
 use Rattle.sarif_counts.specs.Hits.{verdict_name}
-use Rattle.sarif_scope.specs.Told.{hits_told, outside_told, verdict_told}
+use Rattle.sarif_conditions.specs.declared.facts.ConditionFacts.{ConditionFacts}
+use Rattle.sarif_conditions.specs.declared.facts.PolicyFacts.{PolicyFacts}
+use Rattle.sarif_shown.specs.declared.noted.Noted.{Noted}
+use Rattle.sarif_shown.specs.declared.stopping.Stopping.{Stopping}
 use Rattle.sarif_shown.specs.Facts.{Facts}
-use Rattle.sarif_shown.specs.Unshown.{unshown_number}
+use Rattle.sarif_shown.specs.Ruled.{gate_hits, gate_stopping, gate_verdict, noted_in, unshown_results}
 use Rattle.sarif_page.specs.HtmlAttributes.{Attribute, attributes_in}
-use Rattle.sarif_page.specs.HtmlFixed.{counts_begin, page_begin}
-use Rattle.sarif_page.specs.HtmlReport.{hits_part, levels_in, others_part, states_in}
+use Rattle.sarif_page.specs.HtmlFixed.{conditions_begin, counts_begin, counts_head, page_begin}
+use Rattle.sarif_page.specs.HtmlReport.{hits_part, is_on, levels_in, marks_by, others_part, states_in}
 use Rattle.sarif_page.specs.HtmlRows.{Tables, tables_of, without_row}
 use Rattle.sarif_page.specs.HtmlStyle.{style}
 use Rattle.sarif_page.specs.ListAttributes.{section_attributes}
@@ -47,16 +49,33 @@ abbrev pub number_attributes : Bool → List Attribute
 number_attributes true = of_class (codes "on")
 number_attributes false = []
 
-abbrev pub count_attributes : Policy → State → List Attribute
-count_attributes policy state =
+abbrev pub count_attributes : Option Policy → State → List Attribute
+count_attributes marks state =
     (codes "scope=", codes "row") ∷ ((codes "align=", codes "left")
-    ∷ (number_attributes (are_hits policy state Error) ++ (number_attributes (are_hits policy state Warning)
-    ++ (number_attributes (are_hits policy state Note) ++ number_attributes (are_hits policy state NoLevel)))))
+    ∷ (number_attributes (is_on marks state Error) ++ (number_attributes (is_on marks state Warning)
+    ++ (number_attributes (is_on marks state Note) ++ number_attributes (is_on marks state NoLevel)))))
 
-abbrev pub counts_attributes : Policy → List Attribute
-counts_attributes policy =
-    attributes_in counts_begin ++ (count_attributes policy New ++ (count_attributes policy Unchanged
-    ++ (count_attributes policy Updated ++ count_attributes policy Absent)))
+abbrev pub counts_attributes : Option Policy → List Attribute
+counts_attributes marks =
+    attributes_in counts_begin ++ (attributes_in counts_head
+    ++ (count_attributes marks New ++ (count_attributes marks Unchanged
+    ++ (count_attributes marks Updated ++ count_attributes marks Absent))))
+
+-- the sentences on what wasn't looked at
+abbrev pub minds_attributes : Noted → List Attribute
+minds_attributes n =
+    mind_attributes n.without ++ (mind_attributes n.unused ++ (mind_attributes n.filters
+    ++ (mind_attributes n.outside ++ mind_attributes n.unchecked)))
+
+-- the row of a condition
+abbrev pub condition_attributes : ConditionFacts → List Attribute
+condition_attributes c = (codes "scope=", codes "row") ∷ ((codes "align=", codes "left") ∷ [])
+
+-- the table of conditions, if there is a policy
+abbrev pub conditions_attributes : Option PolicyFacts → List Attribute
+conditions_attributes None = []
+conditions_attributes (Some ruling) =
+    attributes_in conditions_begin ++ flat_map condition_attributes ruling.conditions
 
 -- ---- the results
 
@@ -81,10 +100,10 @@ rest_attributes unshown tables =
     else mind_attributes
     (without_row tables.all_hits tables.hits + without_row tables.all_others tables.others)
 
-abbrev pub results_attributes : Verdict → ℕ → Tables → ℕ → List Attribute
-results_attributes verdict max tables unshown =
+abbrev pub results_attributes : Stopping → ℕ → Tables → ℕ → List Attribute
+results_attributes stopping max tables unshown =
     filters_attributes (levels_in (tables.hits ++ tables.others)) (states_in (tables.hits ++ tables.others))
-    ++ ((section_attributes (hits_part verdict max tables) tables.hits
+    ++ ((section_attributes (hits_part stopping max tables) tables.hits
     ++ section_attributes (others_part tables) tables.others)
     ++ (rest_attributes unshown tables ++ mind_attributes unshown))
 
@@ -94,15 +113,13 @@ accept_attributes hits = if hits == 0 then [] else of_class (codes "how")
 
 -- ---- the page
 
-abbrev pub page_attributes_by : Facts → Verdict → ℕ → Tables → List Attribute
-page_attributes_by facts verdict hits tables =
-    top_attributes verdict ++ (links_attributes tables ++ (counts_attributes facts.policy
-    ++ ((mind_attributes facts.without ++ (mind_attributes facts.unused
-    ++ mind_attributes (outside_told facts.change)))
-    ++ (results_attributes verdict facts.policy.max tables
-    (unshown_number facts.change facts.show facts.count facts.policy) ++ accept_attributes hits))))
+abbrev pub page_attributes_by : Facts → Tables → List Attribute
+page_attributes_by facts tables =
+    top_attributes (gate_verdict facts) ++ (links_attributes tables
+    ++ (counts_attributes (marks_by facts.ruling facts.policy)
+    ++ ((minds_attributes (noted_in facts) ++ conditions_attributes facts.ruling)
+    ++ (results_attributes (gate_stopping facts) facts.policy.max tables (unshown_results facts)
+    ++ accept_attributes (gate_hits facts)))))
 
 abbrev pub page_attributes : Facts → List Attribute
-page_attributes facts =
-    page_attributes_by facts (verdict_told facts.change facts.count facts.policy)
-    (hits_told facts.change facts.count facts.policy) (tables_of facts.link facts.findings)
+page_attributes facts = page_attributes_by facts (tables_of facts.link facts.findings)

@@ -41,7 +41,7 @@ pub(crate) fn body_begin() -> &'static str
 "
 }
 
-/// The table of counts, up to its rows.
+/// The table of counts, up to the end of its caption.
 #[tactic(auto, unfolding(crate::specs::HtmlFixed::counts_begin))]
 pub(crate) fn counts_begin() -> &'static str
     ensures { result.now ≡ fixed.counts_begin }
@@ -50,13 +50,35 @@ pub(crate) fn counts_begin() -> &'static str
 </div>
 <div>
 <table class=\"counts\" rules=\"rows\" cellpadding=\"4\">
-<caption>All results by state and level; hits in bold</caption>
+<caption>All results by state and level"
+}
+
+/// After its caption, up to its rows.
+#[tactic(auto, unfolding(crate::specs::HtmlFixed::counts_head))]
+pub(crate) fn counts_head() -> &'static str
+    ensures { result.now ≡ fixed.counts_head }
+{
+    "\
+</caption>
 <thead><tr><th scope=\"col\" align=\"left\">state</th><th scope=\"col\">error</th><th scope=\"col\">warning</th><th scope=\"col\">note</th><th scope=\"col\">none</th><th scope=\"col\">suppressed</th></tr></thead>
 <tbody align=\"right\">
 "
 }
 
-/// After the rows of the counts.
+/// The table of conditions, up to its rows.
+#[tactic(auto, unfolding(crate::specs::HtmlFixed::conditions_begin))]
+pub(crate) fn conditions_begin() -> &'static str
+    ensures { result.now ≡ fixed.conditions_begin }
+{
+    "\
+<table class=\"counts\" rules=\"rows\" cellpadding=\"4\">
+<caption>Conditions of the policy</caption>
+<thead><tr><th scope=\"col\" align=\"left\">condition</th><th scope=\"col\">verdict</th><th scope=\"col\">hits</th><th scope=\"col\">limit</th><th scope=\"col\">outside</th></tr></thead>
+<tbody align=\"right\">
+"
+}
+
+/// After the rows of the counts, and of the conditions.
 #[tactic(auto, unfolding(crate::specs::HtmlFixed::counts_end))]
 pub(crate) fn counts_end() -> &'static str
     ensures { result.now ≡ fixed.counts_end }

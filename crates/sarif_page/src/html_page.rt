@@ -1,90 +1,101 @@
 //! The page of a merge.
-ghost use Rattle.std.specs.Prelude.{◌≡◌, ◌<◌, ◌+◌, ◌^◌, ◌++◌, ◌==◌, length, IfOk, OnOk, string_bytes, if◌then◌else◌};
+ghost use Rattle.std.specs.Prelude.{◌≡◌, ◌<◌, ◌+◌, ◌^◌, ◌++◌, ◌==◌, length, IfOk, OnOk, option_map, string_bytes, if◌then◌else◌};
 ghost use Rattle.sarif_page.specs.Internal.ByFile.{findings_in};
 ghost use Rattle.sarif_page.specs.Internal.Lists.{tables_in};
 ghost use Rattle.sarif_shown.specs.Facts.{facts_of};
+ghost use Rattle.sarif_shown.specs.Sentences as sentences;
 ghost use Rattle.sarif_page.specs.HtmlGroups.{section_if};
 ghost use Rattle.sarif_page.specs.HtmlReport as said;
 ghost use Rattle.sarif_page.specs.HtmlRows.{groups_of};
 
+use crate::html_conditions::push_conditions;
 use crate::html_counts::push_counts;
 use crate::html_filters::push_filters;
 use crate::html_fixed::{
     body_begin, header_end, nothing_reported, page_begin, page_end, title_end,
 };
 use crate::html_lists::{List, MOST_OPEN, push_section};
-use crate::html_style::push_style;
+use crate::html_style::{push_style, tables_style};
 use crate::html_tables::{Rows, rows_of};
-use crate::html_words::{hits_heading, others_text, reason};
+use crate::html_words::{hits_heading, others_text, reason_by};
 use crate::rules::Index;
+use sarif_conditions::PolicyFacts;
 use sarif_counts::Verdict;
 use sarif_findings::Finding;
 use sarif_options::Policy;
-use sarif_scope::{ChangeFacts, hits_told, outside_told, verdict_told};
+use sarif_scope::ChangeFacts;
 use sarif_shown::{
-    ReportInput, accept_text, entries_text, gate_end, gate_text, hits_text, more_text,
-    outside_text, runs_text, unshown_number, unshown_text,
+    Noted, ReportInput, Stopping, accept_text, entries_text, filters_text, gate_ending, gate_hits,
+    gate_stopping, gate_text, gate_verdict, hits_text, more_text, noted_in, outside_text,
+    runs_text, unchecked_text, unshown_results, unshown_text,
 };
 use std::alloc::{AllocError, Global};
+
+/// The style of the table of conditions, if there is one.
+fn style_by(ruling: Option<&PolicyFacts>) -> &'static str
+    ensures { result.now ≡ said.style_by (option_map (λ ruling. ruling.now) ruling.entry) }
+{
+    match ruling {
+        None => "",
+        Some(_) => tables_style(),
+    }
+}
 
 /// Adds the page up to its heading.
 #[tactic(auto, unfolding(crate::specs::HtmlReport::page_head))]
 fn push_head(
     alloc: Global,
     text: &mut String,
+    ruling: Option<&PolicyFacts>,
     verdict: Verdict,
-    hits: u32,
-    max: u32,
+    end: &str,
 ) -> Result<(), AllocError>
-    ensures { OnOk result (string_bytes text.new
-        ≡ string_bytes text.old ++ said.page_head verdict hits max) }
+    ensures { OnOk result (string_bytes text.new ≡ string_bytes text.old
+        ++ said.page_head (option_map (λ ruling. ruling.now) ruling.entry) verdict end.now) }
 {
-    let title = gate_text(alloc, verdict, hits, max)?;
+    let title = gate_text(alloc, verdict, end)?;
     text.push_str(page_begin())?;
     text.push_str(title.as_str())?;
     text.push_str(title_end())?;
     push_style(text)?;
+    text.push_str(style_by(ruling))?;
     text.push_str(body_begin())?;
     Ok(())
 }
 
 #[tactic(auto, unfolding(crate::specs::HtmlReport::heading))]
-fn heading(alloc: Global, verdict: Verdict, hits: u32, max: u32) -> Result<String, AllocError>
-    ensures { IfOk result (λ s. string_bytes s ≡ said.heading verdict hits max) }
+fn heading(alloc: Global, verdict: Verdict, end: &str) -> Result<String, AllocError>
+    ensures { IfOk result (λ s. string_bytes s ≡ said.heading verdict end.now) }
 {
     let word = verdict.name();
-    let end = gate_end(alloc, hits, max)?;
     format!(in alloc; "<h1 class=\"{word}\">Gate: {word}<span>{end}</span></h1>\n")
 }
 
 #[tactic(auto, unfolding(crate::specs::HtmlReport::reason_line))]
 fn reason_line(
     alloc: Global,
+    ruling: Option<&PolicyFacts>,
     policy: &Policy,
     change: &Option<ChangeFacts>,
 ) -> Result<String, AllocError>
-    ensures { IfOk result (λ s. string_bytes s ≡ said.reason_line policy.now change.now) }
+    ensures { IfOk result (λ s. string_bytes s ≡ said.reason_line
+        (option_map (λ ruling. ruling.now) ruling.entry) policy.now change.now) }
 {
-    let reason = reason(alloc, policy, change)?;
+    let reason = reason_by(alloc, ruling, policy, change)?;
     format!(in alloc; "<p>{reason}</p>\n")
 }
 
 /// Adds the verdict, up to the links.
 #[tactic(auto, unfolding(crate::specs::HtmlReport::top_of))]
-fn push_top(
-    alloc: Global,
-    text: &mut String,
-    verdict: Verdict,
-    hits: u32,
-    policy: &Policy,
-    change: &Option<ChangeFacts>,
-) -> Result<(), AllocError>
+fn push_top(alloc: Global, text: &mut String, told: &ReportInput<'_>) -> Result<(), AllocError>
     ensures { OnOk result (string_bytes text.new
-        ≡ string_bytes text.old ++ said.top_of verdict hits policy.now change.now) }
+        ≡ string_bytes text.old ++ said.top_of (facts_of told.now)) }
 {
-    push_head(alloc, text, verdict, hits, policy.max)?;
-    let heading = heading(alloc, verdict, hits, policy.max)?;
-    let reason = reason_line(alloc, policy, change)?;
+    let verdict = gate_verdict(told);
+    let end = gate_ending(alloc, told)?;
+    push_head(alloc, text, told.ruling, verdict, end.as_str())?;
+    let heading = heading(alloc, verdict, end.as_str())?;
+    let reason = reason_line(alloc, told.ruling, told.policy, &told.change)?;
     text.push_str(heading.as_str())?;
     text.push_str(reason.as_str())?;
     Ok(())
@@ -126,8 +137,8 @@ fn mind(alloc: Global, sentence: &str) -> Result<String, AllocError>
 
 /// Adds how many input runs have no results, if there are any.
 fn push_runs(alloc: Global, text: &mut String, without: u32) -> Result<(), AllocError>
-    ensures { OnOk result
-        (string_bytes text.new ≡ string_bytes text.old ++ said.runs_line without) }
+    ensures { OnOk result (string_bytes text.new
+        ≡ string_bytes text.old ++ said.mind_if without (sentences.runs_text without)) }
 {
     if without != 0 {
         let sentence = runs_text(alloc, without)?;
@@ -139,8 +150,8 @@ fn push_runs(alloc: Global, text: &mut String, without: u32) -> Result<(), Alloc
 
 /// Adds how many suppression entries match nothing, if there are any.
 fn push_entries(alloc: Global, text: &mut String, unused: u32) -> Result<(), AllocError>
-    ensures { OnOk result
-        (string_bytes text.new ≡ string_bytes text.old ++ said.entries_line unused) }
+    ensures { OnOk result (string_bytes text.new
+        ≡ string_bytes text.old ++ said.mind_if unused (sentences.entries_text unused)) }
 {
     if unused != 0 {
         let sentence = entries_text(alloc, unused)?;
@@ -150,10 +161,23 @@ fn push_entries(alloc: Global, text: &mut String, unused: u32) -> Result<(), All
     Ok(())
 }
 
+/// Adds how many filters of a policy match nothing, if there are any.
+fn push_unused_filters(alloc: Global, text: &mut String, filters: u32) -> Result<(), AllocError>
+    ensures { OnOk result (string_bytes text.new
+        ≡ string_bytes text.old ++ said.mind_if filters (sentences.filters_text filters)) }
+{
+    if filters != 0 {
+        let sentence = filters_text(alloc, filters)?;
+        let line = mind(alloc, sentence.as_str())?;
+        text.push_str(line.as_str())?;
+    }
+    Ok(())
+}
+
 /// Adds how many results outside of the change would be hits, if there are any.
 fn push_outside(alloc: Global, text: &mut String, outside: u32) -> Result<(), AllocError>
-    ensures { OnOk result
-        (string_bytes text.new ≡ string_bytes text.old ++ said.outside_line outside) }
+    ensures { OnOk result (string_bytes text.new
+        ≡ string_bytes text.old ++ said.mind_if outside (sentences.outside_text outside)) }
 {
     if outside != 0 {
         let sentence = outside_text(alloc, outside)?;
@@ -163,21 +187,30 @@ fn push_outside(alloc: Global, text: &mut String, outside: u32) -> Result<(), Al
     Ok(())
 }
 
-/// Adds the sentences on runs without results, on unused entries and on results outside of the change.
-#[tactic(auto, unfolding(crate::specs::HtmlReport::minds))]
-fn push_minds(
-    alloc: Global,
-    text: &mut String,
-    without: u32,
-    unused: u32,
-    outside: u32,
-) -> Result<(), AllocError>
-    ensures { OnOk result
-        (string_bytes text.new ≡ string_bytes text.old ++ said.minds without unused outside) }
+/// Adds how many results no condition checks, if there are any.
+fn push_unchecked(alloc: Global, text: &mut String, unchecked: u32) -> Result<(), AllocError>
+    ensures { OnOk result (string_bytes text.new
+        ≡ string_bytes text.old ++ said.mind_if unchecked (sentences.unchecked_text unchecked)) }
 {
-    push_runs(alloc, text, without)?;
-    push_entries(alloc, text, unused)?;
-    push_outside(alloc, text, outside)?;
+    if unchecked != 0 {
+        let sentence = unchecked_text(alloc, unchecked)?;
+        let line = mind(alloc, sentence.as_str())?;
+        text.push_str(line.as_str())?;
+    }
+    Ok(())
+}
+
+/// Adds the sentences on what wasn't looked at.
+#[tactic(auto, unfolding(crate::specs::HtmlReport::minds))]
+fn push_minds(alloc: Global, text: &mut String, numbers: &Noted) -> Result<(), AllocError>
+    ensures { OnOk result
+        (string_bytes text.new ≡ string_bytes text.old ++ said.minds numbers.now) }
+{
+    push_runs(alloc, text, numbers.without)?;
+    push_entries(alloc, text, numbers.unused)?;
+    push_unused_filters(alloc, text, numbers.filters)?;
+    push_outside(alloc, text, numbers.outside)?;
+    push_unchecked(alloc, text, numbers.unchecked)?;
     Ok(())
 }
 
@@ -251,16 +284,16 @@ fn others_room(hits: &[&Finding]) -> usize
 fn push_hit_list(
     alloc: Global,
     text: &mut String,
-    verdict: Verdict,
+    stopping: Stopping,
     max: u32,
     rows: &Rows<'_>,
 ) -> Result<usize, AllocError>
     ensures list { OnOk result (string_bytes text.new ≡ string_bytes text.old
-        ++ section_if (said.hits_part verdict max (tables_in rows.now)) (tables_in rows.now).hits) }
+        ++ section_if (said.hits_part stopping max (tables_in rows.now)) (tables_in rows.now).hits) }
     ensures number { IfOk result (λ n. n ≡ length (groups_of (tables_in rows.now).hits)) }
     ensures few { IfOk result (λ n. n < 2 ^ 61) }
 {
-    let heading = hits_heading(alloc, verdict, rows.all_hits, max)?;
+    let heading = hits_heading(alloc, stopping, rows.marked, rows.all_hits, max)?;
     let list = List {
         name: "hits",
         heading: heading.as_str(),
@@ -303,14 +336,14 @@ fn push_other_list(
 fn push_sections(
     alloc: Global,
     text: &mut String,
-    verdict: Verdict,
+    stopping: Stopping,
     max: u32,
     rows: &Rows<'_>,
 ) -> Result<(), AllocError>
     ensures { OnOk result (string_bytes text.new
-        ≡ string_bytes text.old ++ said.sections verdict max (tables_in rows.now)) }
+        ≡ string_bytes text.old ++ said.sections stopping max (tables_in rows.now)) }
 {
-    let before = push_hit_list(alloc, text, verdict, max, rows)?;
+    let before = push_hit_list(alloc, text, stopping, max, rows)?;
     push_other_list(alloc, text, before, rows)?;
     Ok(())
 }
@@ -334,17 +367,17 @@ fn push_unshown(alloc: Global, text: &mut String, unshown: u32) -> Result<(), Al
 fn push_results(
     alloc: Global,
     text: &mut String,
-    verdict: Verdict,
+    stopping: Stopping,
     max: u32,
     rows: &Rows<'_>,
     unshown: u32,
 ) -> Result<(), AllocError>
     requires { rows.now.all_hits + rows.now.all_others < 2 ^ 64 }
     ensures { OnOk result (string_bytes text.new ≡ string_bytes text.old
-        ++ said.results_of verdict max (tables_in rows.now) unshown) }
+        ++ said.results_of stopping max (tables_in rows.now) unshown) }
 {
     push_filters(alloc, text, rows)?;
-    push_sections(alloc, text, verdict, max, rows)?;
+    push_sections(alloc, text, stopping, max, rows)?;
     push_rest(alloc, text, rows, unshown)?;
     push_unshown(alloc, text, unshown)?;
     Ok(())
@@ -371,25 +404,50 @@ fn push_accept(alloc: Global, text: &mut String, hits: u32) -> Result<(), AllocE
     Ok(())
 }
 
-/// Returns the page: the verdict, the counts, and a row for each of the first 10,000 shown results, the hits
-/// before the others, by file. Returns `AllocError` if memory for it runs out.
+/// The options by which cells of the counts are marked: with a policy there are none.
+fn marks_by<'a>(ruling: Option<&PolicyFacts>, policy: &'a Policy) -> Option<&'a Policy>
+    ensures { option_map (λ marks. marks.now) result
+        ≡ said.marks_by (option_map (λ ruling. ruling.now) ruling.entry) policy.now }
+{
+    match ruling {
+        None => Some(policy),
+        Some(_) => None,
+    }
+}
+
+/// Adds what is below the counts, up to the results.
+#[tactic(auto, unfolding(crate::specs::HtmlReport::below_counts))]
+fn push_below_counts(
+    alloc: Global,
+    text: &mut String,
+    told: &ReportInput<'_>,
+) -> Result<(), AllocError>
+    ensures { OnOk result (string_bytes text.new
+        ≡ string_bytes text.old ++ said.below_counts (facts_of told.now)) }
+{
+    let numbers = noted_in(told);
+    push_minds(alloc, text, &numbers)?;
+    push_conditions(alloc, text, told.ruling)?;
+    text.push_str(header_end())?;
+    Ok(())
+}
+
+/// Returns the page: the verdict, the counts, with a policy its conditions, and a row for each of the first 10,000 shown
+/// results, the hits before the others, by file. Returns `AllocError` if memory for it runs out.
 #[tactic(auto, unfolding(crate::specs::HtmlReport::html_of, crate::specs::HtmlReport::page_of))]
 pub fn html_report(alloc: Global, told: &ReportInput<'_>) -> Result<String, AllocError>
     ensures { IfOk result (λ s. string_bytes s ≡ said.html_of (facts_of told.now)) }
 {
-    let ReportInput { counts, policy, .. } = *told;
-    let verdict = verdict_told(counts, policy, &told.change);
     let rows = rows_of(alloc, told.seed, told.link, told.findings)?;
     let mut text = String::new(alloc);
-    let hits = hits_told(counts, policy, &told.change);
-    push_top(alloc, &mut text, verdict, hits, policy, &told.change)?;
+    push_top(alloc, &mut text, told)?;
     push_links(alloc, &mut text, &rows)?;
-    push_counts(alloc, &mut text, counts, policy)?;
-    let outside = outside_told(&told.change);
-    push_minds(alloc, &mut text, told.without, told.unused, outside)?;
-    text.push_str(header_end())?;
-    let unshown = unshown_number(told.show, counts, policy, &told.change);
-    push_results(alloc, &mut text, verdict, policy.max, &rows, unshown)?;
+    let marks = marks_by(told.ruling, told.policy);
+    push_counts(alloc, &mut text, told.counts, marks)?;
+    push_below_counts(alloc, &mut text, told)?;
+    let (stopping, unshown) = (gate_stopping(told), unshown_results(told));
+    push_results(alloc, &mut text, stopping, told.policy.max, &rows, unshown)?;
+    let hits = gate_hits(told);
     push_accept(alloc, &mut text, hits)?;
     text.push_str(page_end())?;
     Ok(text)

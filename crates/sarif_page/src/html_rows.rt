@@ -39,7 +39,7 @@ fn push_front(text: &mut String, finding: &Finding) -> Result<(), AllocError>
     ensures { OnOk result
         (string_bytes text.new ≡ string_bytes text.old ++ said.row_front finding.now) }
 {
-    let hit = hit_word(finding.hit);
+    let hit = hit_word(finding.impact.is_hit());
     push_data(text, finding.level.name(), finding.state.name(), hit)?;
     Ok(())
 }

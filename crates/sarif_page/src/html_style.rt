@@ -223,3 +223,13 @@ pub(crate) fn push_style(text: &mut String) -> Result<(), AllocError>
     text.push_str(style_print())?;
     Ok(())
 }
+
+/// The style of a second table in the header.
+#[tactic(auto, unfolding(crate::specs::HtmlStyle::tables_style))]
+pub(crate) fn tables_style() -> &'static str
+    ensures { result.now ≡ fixed.tables_style }
+{
+    "\
+<style>.counts~.counts{margin-top:1rem}</style>
+"
+}

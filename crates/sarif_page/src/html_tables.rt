@@ -1,15 +1,18 @@
 //! Which results have a row on a page.
 ghost use Rattle.std.specs.Prelude.{◌≡◌, ◌<◌, ◌+◌, ◌^◌, ◌==◌, length, IfOk, option_map, if◌then◌else◌};
+ghost use Rattle.std.specs.List.{count_by};
 ghost use Rattle.sarif_page.specs.Internal.ByFile.{findings_in};
 ghost use Rattle.sarif_page.specs.Internal.Lists.{tables_in};
 ghost use Rattle.sarif_page.specs.HtmlRows.{tables_of};
 ghost use Rattle.sarif_shown.specs.Listed.{hits_among as hits_in, others_among as others_in};
+ghost use Rattle.sarif_shown.specs.Stopping.{stops};
+ghost use Rattle.sarif_shown.specs.declared.stopping.Stopping.TheVariants.{MarkedHit};
 
 use crate::by_file::by_file;
 use crate::rules::{Index, index_of};
 use sarif_findings::Finding;
 use sarif_links::Template;
-use sarif_shown::{push_hits, push_others};
+use sarif_shown::{Stopping, push_hits, push_others};
 use std::alloc::{AllocError, Global};
 use std::hash::RandomState;
 
@@ -27,6 +30,8 @@ pub(crate) struct Rows<'f> {
     pub(crate) all_hits: usize,
     /// The number of other results, with a row or not.
     pub(crate) all_others: usize,
+    /// The number of hits of conditions that fail, with a row or not.
+    pub(crate) marked: usize,
     /// The rules of the first list that there is.
     pub(crate) index: Index<'f>,
     /// The template by which places are linked, if they are.
@@ -49,6 +54,19 @@ fn others_among(alloc: Global, findings: &[Finding]) -> Result<Vec<&Finding>, Al
     let mut others = Vec::new(alloc);
     push_others(&mut others, findings)?;
     Ok(others)
+}
+
+/// How many of these results are hits of conditions that fail.
+fn count_marked(findings: &[Finding]) -> usize
+    ensures { result ≡ count_by (λ f. stops MarkedHit f.impact) findings.now }
+{
+    let mut marked = 0;
+    for finding in findings {
+        if Stopping::MarkedHit.stops(finding.impact) {
+            marked += 1;
+        }
+    }
+    marked
 }
 
 /// The results of the first list that there is.
@@ -80,6 +98,7 @@ pub(crate) fn rows_of<'f>(
         others: other_rows,
         all_hits: hits.len(),
         all_others: others.len(),
+        marked: count_marked(findings),
         index,
         link,
         seed,

@@ -1,13 +1,13 @@
 //! The sentences and the headings of a page.
-ghost use Rattle.std.specs.Prelude.{◌≡◌, ◌++◌, IfOk, OnOk, string_bytes};
+ghost use Rattle.std.specs.Prelude.{◌≡◌, ◌++◌, IfOk, OnOk, option_map, string_bytes};
 ghost use Rattle.sarif_page.specs.HtmlWords as said;
 
 use sarif_change::Scope;
-use sarif_counts::Verdict;
+use sarif_conditions::PolicyFacts;
 use sarif_model::{Level, State};
 use sarif_options::{Policy, States};
 use sarif_scope::ChangeFacts;
-use sarif_shown::{count_text, hits_text};
+use sarif_shown::{Stopping, count_text, hits_text};
 use std::alloc::{AllocError, Global};
 
 /// Adds a state, if it counts.
@@ -107,26 +107,82 @@ pub(crate) fn reason(
     )
 }
 
-/// Returns the heading of the hits, which says whether they stop the change.
+/// Returns the sentence that says what a hit is: with a policy, under these options, and with a change if there is one.
+pub(crate) fn reason_by(
+    alloc: Global,
+    ruling: Option<&PolicyFacts>,
+    policy: &Policy,
+    change: &Option<ChangeFacts>,
+) -> Result<String, AllocError>
+    ensures { IfOk result (λ s. string_bytes s ≡ said.reason_by
+        (option_map (λ ruling. ruling.now) ruling.entry) policy.now change.now) }
+{
+    match ruling {
+        None => reason(alloc, policy, change),
+        Some(_) => String::from_str(
+            alloc,
+            "A hit is a result that meets a condition of the policy and is not suppressed.",
+        ),
+    }
+}
+
+/// The heading of hits that all stop the change.
+fn all_stop(alloc: Global, hits: usize) -> Result<String, AllocError>
+    ensures { IfOk result (λ s. string_bytes s ≡ said.all_stop hits) }
+{
+    count_text(
+        alloc,
+        hits,
+        " hit stops this change",
+        " hits stop this change",
+    )
+}
+
+/// The heading of hits of which some stop the change.
+fn some_stop(alloc: Global, marked: usize, hits: usize) -> Result<String, AllocError>
+    ensures { IfOk result (λ s. string_bytes s ≡ said.some_stop marked hits) }
+{
+    let all = hits_text(alloc, hits)?;
+    let stop = count_text(
+        alloc,
+        marked,
+        " of them stops this change",
+        " of them stop this change",
+    )?;
+    format!(in alloc; "{all}, {stop}")
+}
+
+/// The heading of the hits of a policy.
+fn marked_heading(alloc: Global, marked: usize, hits: usize) -> Result<String, AllocError>
+    ensures { IfOk result (λ s. string_bytes s ≡ said.marked_heading marked hits) }
+{
+    if marked == 0 {
+        let all = hits_text(alloc, hits)?;
+        return format!(in alloc; "{all}, within the limits");
+    }
+    if marked == hits {
+        return all_stop(alloc, hits);
+    }
+    some_stop(alloc, marked, hits)
+}
+
+/// Returns the heading of the hits, which says whether they stop the change; `marked` are those that stop it with a policy.
 pub(crate) fn hits_heading(
     alloc: Global,
-    verdict: Verdict,
+    stopping: Stopping,
+    marked: usize,
     hits: usize,
     max: u32,
 ) -> Result<String, AllocError>
-    ensures { IfOk result (λ s. string_bytes s ≡ said.hits_heading verdict hits max) }
+    ensures { IfOk result (λ s. string_bytes s ≡ said.hits_heading stopping marked hits max) }
 {
-    match verdict {
-        Verdict::Fail => count_text(
-            alloc,
-            hits,
-            " hit stops this change",
-            " hits stop this change",
-        ),
-        Verdict::Pass => {
+    match stopping {
+        Stopping::EachHit => all_stop(alloc, hits),
+        Stopping::NoHit => {
             let hits = hits_text(alloc, hits)?;
             format!(in alloc; "{hits}, within the {max} allowed")
         }
+        Stopping::MarkedHit => marked_heading(alloc, marked, hits),
     }
 }
 

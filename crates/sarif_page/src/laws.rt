@@ -4,6 +4,7 @@ ghost use Rattle.std.specs.Prelude.{◌≡◌, ◌≤◌, ℕ, List, Option, Boo
 ghost use Rattle.std.specs.Prelude.{not, ◌&&◌, []};
 ghost use Rattle.std.specs.Prelude.{◌+◌, flat_map, length};
 ghost use Rattle.std.specs.List.{count_by, list_all, sum_by};
+ghost use Rattle.sarif_counts.specs.Impacts.{is_hit};
 ghost use Rattle.sarif_findings.specs.declared.finding.Finding.{Finding};
 ghost use Rattle.sarif_shown.specs.declared.escaping.Escaping.TheVariants.{Page};
 ghost use Rattle.sarif_shown.specs.Escaped.{escaped};
@@ -40,9 +41,9 @@ pub fn page_rows_are_by_file()
     ensures most { (findings : List Finding) →
         length (page.page_rows findings) ≤ page.most_rows }
     ensures hits { (findings : List Finding) →
-        list_all (λ f. f.hit) (page.hit_rows findings) ≡ true }
+        list_all (λ f. is_hit f.impact) (page.hit_rows findings) ≡ true }
     ensures others { (findings : List Finding) →
-        list_all (λ f. not f.hit) (page.other_rows findings) ≡ true }
+        list_all (λ f. not (is_hit f.impact)) (page.other_rows findings) ≡ true }
     ensures together { (findings : List Finding) →
         (are_together (page.hit_rows findings) && are_together (page.other_rows findings)) ≡ true }
     ensures once { (findings : List Finding) (test : Finding → Bool) →
@@ -55,11 +56,11 @@ pub fn page_rows_count_all_results()
     ensures hits { (findings : List Finding) →
         length (page.hit_rows findings)
         + page.without_row (length (hits_among findings)) (page.hit_rows findings)
-        ≡ count_by (λ f. f.hit) findings }
+        ≡ count_by (λ f. is_hit f.impact) findings }
     ensures others { (findings : List Finding) →
         length (page.other_rows findings)
         + page.without_row (length (others_among findings)) (page.other_rows findings)
-        ≡ count_by (λ f. not f.hit) findings }
+        ≡ count_by (λ f. not (is_hit f.impact)) findings }
 {}
 
 /// The groups of a list have its rows, file by file, and each of them once.

@@ -5,6 +5,7 @@ mod breaks;
 mod by_file;
 mod groups;
 mod html_code;
+mod html_conditions;
 mod html_counts;
 mod html_filters;
 mod html_fixed;

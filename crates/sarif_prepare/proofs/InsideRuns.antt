@@ -1,7 +1,6 @@
 -- The results that are reported, counted and marked by their drafts, without those outside of a change, are the results
 -- that are reported, counted and marked in the runs of a merged log.
-use Rattle.std.proofs.Common.{◌≡◌, ◌+◌, ◌++◌, ℕ, Bool, true, false, not, ◌&&◌, List, [], ◌∷◌, Option, Some, None, map, length, codes, refl, sym, ap, ◌∙◌, arith}
-use Rattle.std.proofs.lemmas.List.{append-nil}
+use Rattle.std.proofs.Common.{◌≡◌, ◌+◌, ◌++◌, ℕ, Bool, true, false, not, ◌&&◌, List, [], ◌∷◌, Option, Some, None, map, length, refl, sym, ap, ◌∙◌, arith}
 use Rattle.std.specs.Option.{option_map_or}
 use Rattle.std.specs.Prelude.{cond, filter, flat_map, if◌then◌else◌}
 use Rattle.std.specs.List.{AllByRecursion, cons_option, filter_map}
@@ -32,10 +31,9 @@ use Rattle.sarif_prepare.specs.Internal.Marking.{marked_each}
 use Rattle.sarif_prepare.specs.Internal.Telling.{own_results, told_as, told_each}
 use Rattle.sarif_prepare.proofs.EachWritten.{each_on, later_in, later_on, runs_on, AreSame, IsThere, Later, Step}
 use Rattle.sarif_prepare.proofs.InsideWritten.{written_inside}
-use Rattle.sarif_prepare.proofs.RunsAlike.{AreAlike}
 use Rattle.sarif_prepare.proofs.ToldResults.{draft_told}
 use Rattle.sarif_results.specs.declared.draft.Draft.{Draft}
-use Rattle.sarif_results.specs.Drafts.{draft_by, drafts_by, members_in, IsObject, IsRun, Listing}
+use Rattle.sarif_results.specs.Drafts.{draft_by, drafts_by, members_in, IsRun, Listing}
 use Rattle.sarif_scope.specs.Counted.{count_others}
 use Rattle.sarif_scope.specs.Inside.{is_inside, is_outside_of}
 use Rattle.sarif_scope.specs.declared.gated.GatedChange.{GatedChange}

@@ -1,5 +1,5 @@
 -- A result is inside of a change as it is written if it is not outside as it was read.
-use Rattle.std.proofs.Common.{◌≡◌, ◌++◌, ℕ, Bool, true, false, not, ◌&&◌, List, [], ◌∷◌, Option, Some, None, map, codes, refl, sym, ap, ◌∙◌}
+use Rattle.std.proofs.Common.{◌≡◌, ◌++◌, ℕ, true, false, not, ◌&&◌, List, Option, Some, map, codes, refl, sym, ap, ◌∙◌}
 use Rattle.std.specs.Prelude.{bytes_eq, flat_map, option_and_then}
 use Rattle.std.specs.List.{list_any}
 use Rattle.serde_json.specs.Data.{Data, null, boolean, number, string, array, object, Items, Members}

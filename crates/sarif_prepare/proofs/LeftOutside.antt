@@ -1,5 +1,5 @@
 -- What is left of baselines is absent, so it is never inside of a change.
-use Rattle.std.proofs.Common.{◌≡◌, ◌+◌, ◌++◌, ℕ, Bool, true, false, not, List, [], ◌∷◌, Option, Some, None, map, take, drop, length, codes, refl, sym, ap, ◌∙◌}
+use Rattle.std.proofs.Common.{◌≡◌, ◌+◌, ◌++◌, Bool, true, false, not, List, [], ◌∷◌, Some, take, drop, length, codes, refl, sym, ap, ◌∙◌}
 use Rattle.std.specs.Prelude.{cond, filter, flat_map, option_and_then}
 use Rattle.std.specs.List.{AllByRecursion, filter_map}
 use Rattle.serde_json.specs.Data.{Data, null, boolean, number, string, array, object, Members}
@@ -8,7 +8,6 @@ use Rattle.serde_json.specs.View.{items_of}
 use Rattle.serde_json.proofs.Views.{get_member-put}
 use Rattle.sarif_counts.specs.CountOf.{count_in, count_of, results_in}
 use Rattle.sarif_findings.specs.Reported.{finding_if}
-use Rattle.sarif_findings.specs.declared.finding.Finding.{Finding}
 use Rattle.sarif_findings.specs.declared.reporting.Reporting.{Reporting}
 use Rattle.sarif_log.specs.MergedRuns.{absent_runs, bare, if_any, unmatched, with_results, written}
 use Rattle.sarif_log.specs.Told.{reported_inside}
@@ -23,7 +22,7 @@ use Rattle.sarif_model.specs.Run.{elements_or_none, present, results_of}
 use Rattle.sarif_prepare.proofs.InsideWritten.{absent_outside}
 use Rattle.sarif_results.specs.Drafts.{IsObject, IsRun}
 use Rattle.sarif_scope.specs.Counted.{count_others}
-use Rattle.sarif_scope.specs.Inside.{is_inside, results_inside}
+use Rattle.sarif_scope.specs.Inside.{is_inside}
 use Rattle.sarif_scope.specs.declared.gated.GatedChange.{GatedChange}
 
 module _ (change : GatedChange) where

@@ -19,11 +19,15 @@ pub mod MarkedSides
 pub mod MatchedRecords
 pub mod NarrowedSides
 pub mod ResultsAlike
+pub mod RuledLong
+pub mod RuledSides
 pub mod RunPartsOf
 pub mod RunsAlike
 pub mod Shared
+pub mod ShownImpacts
 pub mod StandingsMore
 pub mod ToldResults
+pub mod ToldRuled
 pub mod ToldRuns
 pub mod ToldSides
 pub mod Untaken

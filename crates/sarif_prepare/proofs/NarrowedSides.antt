@@ -5,10 +5,7 @@ use Rattle.std.proofs.lemmas.List.Concat.{flat_map-append}
 use Rattle.std.specs.Prelude.{flat_map, option_map, if◌then◌else◌, IfSome}
 use Rattle.std.specs.List.{AllByRecursion}
 use Rattle.serde_json.specs.Data.{Data}
-use Rattle.serde_json.specs.View.{items_of}
-use Rattle.sarif_accept.specs.Choosing.{Marks}
 use Rattle.sarif_choice.specs.declared.choice.Choice.{Choice}
-use Rattle.sarif_counts.specs.CountOf.{count_in, count_of}
 use Rattle.sarif_counts.specs.Hits.{count_if, hits_at, hits_of, severe_of, Count}
 use Rattle.sarif_entries.specs.File.{File}
 use Rattle.sarif_evidence.specs.Evidence.{has_evidence, state_in}
@@ -19,15 +16,13 @@ use Rattle.sarif_evidence.specs.declared.version.MatchingVersion.TheVariants.{Tw
 use Rattle.sarif_findings.specs.declared.reporting.Reporting.{Reporting}
 use Rattle.sarif_log.specs.Internal.Copied.{masked}
 use Rattle.sarif_log.specs.Internal.Texts.{tallied}
-use Rattle.sarif_log.specs.LogBy.{current_runs, leftover_runs, limited_records, listing_of, partner_in, runs_by, states_from, states_of, taken_of}
+use Rattle.sarif_log.specs.LogBy.{current_runs, leftover_runs, limited_records, listing_of, runs_by, states_from, states_of, taken_of}
 use Rattle.sarif_log.specs.Told.{if_asked, reported_inside, told_by, told_of}
 use Rattle.sarif_log.proofs.Limits.{limited_long}
 use Rattle.sarif_log.proofs.RunCounts.{left_count}
 use Rattle.sarif_log.proofs.Sides.{states_long, taken_long}
 use Rattle.sarif_match.specs.Partners.{partners_in}
-use Rattle.sarif_model.specs.Level.{is_at_least}
 use Rattle.sarif_model.specs.Limits.{most_results, most_runs}
-use Rattle.sarif_model.specs.Run.{results_of}
 use Rattle.sarif_model.specs.declared.kinds.Level.{Level}
 use Rattle.sarif_model.specs.declared.kinds.Level.TheVariants.{NoLevel, Note, Warning, Error}
 use Rattle.sarif_model.specs.declared.kinds.State.{State}
@@ -138,12 +133,12 @@ module _ (v : MatchingVersion) (file : File) (now before : List Placed) (c : Hal
   abbrev xs : List State
   xs = states_of v (records_of now) (records_of before)
 
-  states_are : p.states.items ≡ map Some xs
+  pub states_are : p.states.items ≡ map Some xs
   states_are =
       q.states ∙ ap (λ rs. map Some (states_of v rs b.records.items)) (matched_records file now c h.is_current)
       ∙ ap (λ rs. map Some (states_of v (records_of now) rs)) h.are_baselines.records
 
-  taken_are : p.taken.items ≡ taken_of v (records_of now) (records_of before)
+  pub taken_are : p.taken.items ≡ taken_of v (records_of now) (records_of before)
   taken_are =
       q.taken ∙ ap (λ rs. taken_of v rs b.records.items) (matched_records file now c h.is_current) ∙ ap (taken_of v (records_of now)) h.are_baselines.records
 

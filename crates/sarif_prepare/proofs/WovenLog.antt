@@ -17,8 +17,10 @@ use Rattle.sarif_log.specs.LogBy.{current_runs, leftover_runs, limited_records, 
 use Rattle.sarif_log.specs.MergedRuns.{absent_runs, merged_runs}
 use Rattle.sarif_log.specs.declared.merged_text.Side.{Side}
 use Rattle.std.specs.Prelude.{option_map}
-use Rattle.sarif_log.specs.Told.{told_by}
 use Rattle.sarif_options.specs.declared.policy.Policy.{Policy}
+use Rattle.sarif_policy.specs.declared.condition.GateCondition.{GateCondition}
+use Rattle.sarif_prepare.specs.Ruled.{matched_in, ruled_by}
+use Rattle.sarif_prepare.specs.Told.{told_in}
 use Rattle.sarif_scope.specs.Gate.{facts_of}
 use Rattle.sarif_scope.specs.declared.gated.GatedChange.{GatedChange}
 use Rattle.sarif_log.specs.declared.prepared.CopyFlags.{CopyFlags}
@@ -299,14 +301,18 @@ module _ (v : MatchingVersion) (file : File) (now before : List Placed) (c : Hal
       ap₂ (λ a z. Some (a ++ z)) (ap (places_from 0) first) (ap₂ places_from runs rest)
 
   -- everything that is written, put together
-  pub woven_prepared : (logs : CurrentWoven) (other : LeftWoven) (made : Prepared) (change : Option GatedChange) (policy : Policy) (asked : Option Reporting)
+  pub woven_prepared : (logs : CurrentWoven) (other : LeftWoven) (made : Prepared) (change : Option GatedChange) (policy : Policy)
+      (conditions : Option (List GateCondition)) (asked : Option Reporting)
       → AreCurrentWoven file (states_of v (records_of (without_copies now)) (records_of (without_copies before))) now logs.copies.items logs.side.side
       → AreLeftWoven (taken_of v (records_of (without_copies now)) (records_of (without_copies before))) before other.copies.items other.left.side
       → made.current ≡ logs.side.side → made.baseline ≡ other.left.side → made.copies ≡ Some (flags_of logs.copies other.copies)
       → made.without ≡ runs_without_results (run_values now) → made.unused ≡ unused_of file (limited_records file (without_copies now))
       → made.change ≡ option_map (λ g. facts_of g policy (runs_counted v file now before)) change
-      → made.findings.items ≡ told_by change asked (runs_counted v file now before) → IsPreparedOnce v file now before change policy asked made
-  woven_prepared logs other made change policy asked here there current baseline copies without unused facts told =
+      → made.ruling ≡ ruled_by conditions v file change (without_copies now) (without_copies before)
+      → made.findings.items
+      ≡ told_in conditions (matched_in v file change (without_copies now) (without_copies before)) asked (runs_counted v file now before)
+      → IsPreparedOnce v file now before change policy conditions asked made
+  woven_prepared logs other made change policy conditions asked here there current baseline copies without unused facts ruled told =
       let flags = flags_of logs.copies other.copies in
       let side = logs.side.side in
       let left = other.left.side in
@@ -322,5 +328,6 @@ module _ (v : MatchingVersion) (file : File) (now before : List Placed) (c : Hal
         without = without;
         unused = unused;
         change = facts;
+        ruling = ruled;
         told = told;
       }

@@ -2,11 +2,13 @@
 use Rattle.std.specs.Prelude.{ℕ, Bool, true, false, List, ◌++◌, Option, Some, None}
 use Rattle.serde_json.specs.Data.{Data}
 use Rattle.sarif_entries.specs.File.{File}
+use Rattle.sarif_findings.specs.declared.finding.Finding.{Finding}
 use Rattle.sarif_findings.specs.declared.reporting.Reporting.{Reporting}
-use Rattle.sarif_scope.specs.Gate.{gate_by}
+use Rattle.sarif_conditions.specs.declared.facts.PolicyFacts.{PolicyFacts}
 use Rattle.sarif_log.specs.Copies.{naming}
 use Rattle.sarif_log.specs.Internal.Prepared.{IsPreparedAs}
 use Rattle.sarif_log.specs.Log.{log_with}
+use Rattle.sarif_log.specs.Ruled.{gate_ruled}
 use Rattle.sarif_log.specs.LogBy.{current_runs, leftover_runs, limited_records, runs_by, runs_without_results}
 use Rattle.sarif_log.specs.declared.copies.CopyPlace.{CopyPlace}
 use Rattle.sarif_log.specs.declared.prepared.Prepared.{Prepared}
@@ -16,7 +18,10 @@ use Rattle.sarif_options.specs.declared.checks.Checks.{Checks}
 use Rattle.sarif_options.specs.declared.policy.Policy.{Policy}
 use Rattle.sarif_prepare.specs.Chosen.{chosen_merge}
 use Rattle.sarif_choice.specs.declared.choice.Choosing.{Choosing}
+use Rattle.sarif_policy.specs.declared.condition.GateCondition.{GateCondition}
 use Rattle.sarif_prepare.specs.Once.{copies_written, current_once, leftover_once}
+use Rattle.sarif_prepare.specs.Ruled.{matched_in, ruled_by}
+use Rattle.sarif_prepare.specs.Told.{told_in}
 use Rattle.sarif_runs.specs.Judging.{run_values}
 use Rattle.sarif_runs.specs.Placed.{Placed}
 use Rattle.sarif_scope.specs.declared.gated.GatedChange.{GatedChange}
@@ -53,22 +58,41 @@ abbrev pub runs_counted_if : Bool → MatchingVersion → File → List Placed �
 runs_counted_if once version file current baseline =
     runs_by version file (counted_if once current) (counted_if once baseline)
 
+-- what these conditions decide about the results that are counted, if there are conditions
+abbrev pub ruled_if : Option (List GateCondition) → Checks → File → Option GatedChange
+    → List Placed → List Placed → Option PolicyFacts
+ruled_if conditions checks file change current baseline =
+    ruled_by conditions checks.matching file change
+    (counted_if checks.once current) (counted_if checks.once baseline)
+
+-- the findings of the results that are counted, with what these conditions decide, if there are conditions
+abbrev pub told_if : Option (List GateCondition) → Checks → File → Option GatedChange
+    → Option Reporting → List Placed → List Placed → List Finding
+told_if conditions checks file change asked current baseline =
+    told_in conditions (matched_in checks.matching file change
+    (counted_if checks.once current) (counted_if checks.once baseline)) asked
+    (runs_counted_if checks.once checks.matching file current baseline)
+
 -- everything that is written for the merge of these input runs, these baseline runs and this suppression file, and its
 -- findings, as these checks say how results are matched and counted
 abbrev pub IsPreparedBy : Checks → File → List Placed → List Placed → Option GatedChange → Policy
-    → Option Reporting → Prepared → Type 0
-IsPreparedBy checks file current baseline change policy asked prepared =
+    → Option (List GateCondition) → Option Reporting → Prepared → Type 0
+IsPreparedBy checks file current baseline change policy conditions asked prepared =
     IsPreparedAs (written_if checks.once checks.matching file current baseline)
     (runs_counted_if checks.once checks.matching file current baseline)
     (copies_if checks.once checks.matching current baseline) change policy
+    (ruled_if conditions checks file change current baseline)
     (runs_without_results (run_values current))
-    (unused_of file (limited_records file (counted_if checks.once current))) asked prepared
+    (unused_of file (limited_records file (counted_if checks.once current)))
+    (told_if conditions checks file change asked current baseline) prepared
 
 -- the log of these input runs, baseline runs and suppression file, as these checks say how results are matched and counted
-abbrev pub logged_by : Checks → File → List Placed → List Placed → Option GatedChange → Policy → Data
-logged_by checks file current baseline change policy =
+abbrev pub logged_by : Checks → File → List Placed → List Placed → Option GatedChange → Policy
+    → Option (List GateCondition) → Data
+logged_by checks file current baseline change policy conditions =
     log_with (naming (copies_if checks.once checks.matching current baseline)
-    (gate_by change (runs_counted_if checks.once checks.matching file current baseline) policy
+    (gate_ruled (ruled_if conditions checks file change current baseline) change
+    (runs_counted_if checks.once checks.matching file current baseline) policy
     (runs_without_results (run_values current))
     (unused_of file (limited_records file (counted_if checks.once current)))))
     (written_if checks.once checks.matching file current baseline)

@@ -2,6 +2,7 @@
 pub mod Apart
 pub mod Baselines
 pub mod Halves
+pub mod Impacts
 pub mod Keeping
 pub mod LeftParts
 pub mod Leftover

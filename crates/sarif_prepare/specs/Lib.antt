@@ -5,3 +5,5 @@ pub mod Hidden
 pub mod Internal
 pub mod Kept
 pub mod Once
+pub mod Ruled
+pub mod Told

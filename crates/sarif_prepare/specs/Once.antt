@@ -19,6 +19,9 @@ use Rattle.sarif_once.specs.Once.{without_copies}
 use Rattle.sarif_read.specs.Unmarked.{unmarked}
 use Rattle.sarif_runs.specs.Judging.{records_of, run_values}
 use Rattle.sarif_options.specs.declared.policy.Policy.{Policy}
+use Rattle.sarif_policy.specs.declared.condition.GateCondition.{GateCondition}
+use Rattle.sarif_prepare.specs.Ruled.{matched_in, ruled_by}
+use Rattle.sarif_prepare.specs.Told.{told_in}
 use Rattle.sarif_runs.specs.Placed.{Placed}
 use Rattle.sarif_scope.specs.declared.gated.GatedChange.{GatedChange}
 use Rattle.sarif_suppress.specs.Limited.{all_admitted, with_admitted}
@@ -109,12 +112,17 @@ copies_written version current baseline =
 -- ---- what is prepared
 
 -- everything that is written for the merge of these input runs, these baseline runs and this suppression file, matched
--- by this version without their copies, and its findings; only findings are counted, reported and applied
+-- by this version without their copies, and its findings; only findings are counted, reported, applied and checked by the
+-- conditions of a policy
 abbrev pub IsPreparedOnce : MatchingVersion → File → List Placed → List Placed → Option GatedChange
-    → Policy → Option Reporting → Prepared → Type 0
-IsPreparedOnce version file current baseline change policy asked prepared =
+    → Policy → Option (List GateCondition) → Option Reporting → Prepared → Type 0
+IsPreparedOnce version file current baseline change policy conditions asked prepared =
     IsPreparedAs (runs_once version file current baseline)
     (runs_counted version file current baseline)
     (Some (copies_written version current baseline)) change policy
+    (ruled_by conditions version file change (without_copies current) (without_copies baseline))
     (runs_without_results (run_values current))
-    (unused_of file (limited_records file (without_copies current))) asked prepared
+    (unused_of file (limited_records file (without_copies current)))
+    (told_in conditions
+    (matched_in version file change (without_copies current) (without_copies baseline)) asked
+    (runs_counted version file current baseline)) prepared

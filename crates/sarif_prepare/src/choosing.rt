@@ -4,6 +4,7 @@ ghost use Rattle.sarif_log.specs.LogBy.{expired_of, limited_records};
 ghost use Rattle.sarif_prepare.specs.Asked.{choice_in, reporting_in, upkeep_in};
 ghost use Rattle.sarif_prepare.specs.By.{merge_by, IsPreparedBy};
 ghost use Rattle.sarif_prepare.specs.Kept.{bytes_of, change_in, IsKept, IsUnkept};
+ghost use Rattle.sarif_prepare.specs.Ruled.{policy_in};
 ghost use Rattle.sarif_results.specs.Internal.Judged.{placed_in, IsJudged};
 ghost use Rattle.sarif_upkeep.specs.Internal.IsMatched.{IsFileOf};
 
@@ -32,7 +33,8 @@ pub fn prepare_by<R: Threads + Sync>(
     requires baseline { IsJudged rules.now.file.now true baseline }
     ensures prepared { IfOk result (IsPreparedBy asked.now.options.now.checks
         rules.now.file.now (placed_in current.entry) (placed_in baseline.entry)
-        (change_in rules.now) asked.now.options.now.policy (reporting_in asked.now)) }
+        (change_in rules.now) asked.now.options.now.policy (policy_in rules.now)
+        (reporting_in asked.now)) }
     ensures expired { IfOk result (λ prepared. prepared.expired
         ≡ expired_of rules.now.file.now
         (limited_records rules.now.file.now (placed_in current.entry))) }

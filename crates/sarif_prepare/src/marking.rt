@@ -19,7 +19,7 @@ ghost use Rattle.sarif_upkeep.specs.Life.{no_hit};
 use crate::asked::Asked;
 use crate::file_read::FileRead;
 use crate::pairing::{Sides, states_shown};
-use crate::preparing::tell_results;
+use crate::reporting::tell_results;
 use sarif_choice::{Choosing, Unfit, choose};
 use sarif_findings::{Finding, Reporting, Show};
 use sarif_model::{At, Cause, Fault, MergeFault, Refusal, Sequence, State, Text};
@@ -29,7 +29,7 @@ use std::alloc::{AllocError, Global};
 use std::thread::Threads;
 
 /// A copy of these strings. It shares their bytes.
-fn copy_of_texts(alloc: Global, texts: &[Text]) -> Result<Sequence<Text>, AllocError>
+pub(crate) fn copy_of_texts(alloc: Global, texts: &[Text]) -> Result<Sequence<Text>, AllocError>
     ensures { IfOk result (λ copy. copy ≡ texts.now) }
 {
     let mut copy = Sequence::new(alloc);

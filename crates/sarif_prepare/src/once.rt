@@ -8,6 +8,7 @@ ghost use Rattle.sarif_prepare.specs.Chosen.{chosen_merge};
 ghost use Rattle.sarif_prepare.specs.Internal.Woven.{flags_of, AreApart, AreWoven};
 ghost use Rattle.sarif_prepare.specs.Kept.{bytes_of, change_in, IsKept, IsUnkept};
 ghost use Rattle.sarif_prepare.specs.Once.{IsPreparedOnce};
+ghost use Rattle.sarif_prepare.specs.Ruled.{policy_in};
 ghost use Rattle.sarif_results.specs.Internal.Judged.{placed_in, IsJudged};
 ghost use Rattle.sarif_runs.specs.Placed.{Placed};
 ghost use Rattle.sarif_upkeep.specs.Internal.IsMatched.{IsFileOf};
@@ -20,16 +21,13 @@ use crate::copies::{
 };
 use crate::file_read::FileRead;
 use crate::halves::{Half, current_half};
-use crate::outside::{facts_of, narrow_if};
 use crate::pairing::{Paired, PairedSides, pair_sides};
-use crate::preparing::{CurrentSide, ToldSides, tell_sides};
+use crate::preparing::CurrentSide;
+use crate::reporting::{ReportedSides, report_sides};
 use crate::woven::{CurrentWoven, LeftWoven, weave_baselines, weave_logs};
-use sarif_counts::Life;
-use sarif_findings::Finding;
 use sarif_log::{CopyFlags, Prepared, Spent};
 use sarif_model::MergeFault;
 use sarif_results::Judged;
-use sarif_scope::ChangeFacts;
 use std::alloc::{AllocError, Global};
 use std::thread::Threads;
 
@@ -77,16 +75,8 @@ fn split_sides<'t, 'a, R: Threads + Sync>(
     })
 }
 
-/// What is reported, what the gate says about a change, and what is for later merges.
-#[derive(Drop)]
-struct Reported {
-    findings: Vec<Finding>,
-    change: Option<ChangeFacts>,
-    life: Life,
-}
-
 /// Returns what is written of both sides, with what is reported and what is for later merges.
-fn put_together(logs: CurrentWoven, baselines: LeftWoven, reported: Reported) -> Prepared
+fn put_together(logs: CurrentWoven, baselines: LeftWoven, reported: ReportedSides) -> Prepared
     requires { AreWoven logs baselines }
     ensures current { result.current ≡ logs.side.side }
     ensures baseline { result.baseline ≡ baselines.left.side }
@@ -96,11 +86,13 @@ fn put_together(logs: CurrentWoven, baselines: LeftWoven, reported: Reported) ->
     ensures expired { result.expired ≡ logs.side.expired }
     ensures findings { result.findings ≡ reported.findings }
     ensures change { result.change ≡ reported.change }
+    ensures ruling { result.ruling ≡ reported.ruling }
     ensures life { result.life ≡ reported.life }
 {
-    let Reported {
+    let ReportedSides {
         findings,
         change,
+        ruling,
         life,
     } = reported;
     let CurrentWoven { side, copies } = logs;
@@ -123,6 +115,7 @@ fn put_together(logs: CurrentWoven, baselines: LeftWoven, reported: Reported) ->
         expired,
         findings,
         change,
+        ruling,
         life,
         copies: Some(CopyFlags {
             current: copies,
@@ -149,7 +142,8 @@ fn prepare_split<R: Threads + Sync>(
     ensures prepared { IfOk result (λ prepared. (now before : List Placed)
         → AreApart rules.now.file.now now before split.entry
         → IsPreparedOnce asked.now.options.now.checks.matching rules.now.file.now now before
-        (change_in rules.now) asked.now.options.now.policy (reporting_in asked.now) prepared) }
+        (change_in rules.now) asked.now.options.now.policy (policy_in rules.now)
+        (reporting_in asked.now) prepared) }
     ensures expired { IfOk result
         (λ prepared. (rs : List Record) → prepared.expired ≡ expired_of rules.now.file.now rs) }
     ensures kept { (now before : List Placed)
@@ -173,18 +167,7 @@ fn prepare_split<R: Threads + Sync>(
         baseline_copies,
     } = split;
     let sides = pair_sides(rt, alloc, current, changes, baselines, asked.options)?;
-    let paired = &sides.paired;
-    let narrowed = narrow_if(
-        rt,
-        alloc,
-        rules.change,
-        &sides.current,
-        paired,
-        asked.options,
-    )?;
-    let change = facts_of(rules.change, &narrowed);
-    let lent = sides.lend(&narrowed);
-    let ToldSides { findings, life } = tell_sides(rt, alloc, &lent, rules, asked)?;
+    let reported = report_sides(rt, alloc, &sides, rules, asked)?;
     let PairedSides {
         current,
         baselines,
@@ -198,15 +181,7 @@ fn prepare_split<R: Threads + Sync>(
     } = paired;
     let there = weave_baselines(alloc, baselines, baseline_copies, &taken, left)?;
     let here = weave_logs(alloc, current, current_copies, &states, rules.file)?;
-    Ok(put_together(
-        here,
-        there,
-        Reported {
-            findings,
-            change,
-            life,
-        },
-    ))
+    Ok(put_together(here, there, reported))
 }
 
 /// Returns what [`prepare`](crate::prepare) returns, if copies aren't counted. A copy is a result of logs, or of
@@ -226,7 +201,8 @@ pub fn prepare_once<R: Threads + Sync>(
     requires baseline { IsJudged rules.now.file.now true baseline }
     ensures prepared { IfOk result (IsPreparedOnce asked.now.options.now.checks.matching
         rules.now.file.now (placed_in current.entry) (placed_in baseline.entry)
-        (change_in rules.now) asked.now.options.now.policy (reporting_in asked.now)) }
+        (change_in rules.now) asked.now.options.now.policy (policy_in rules.now)
+        (reporting_in asked.now)) }
     ensures expired { IfOk result
         (λ prepared. (rs : List Record) → prepared.expired ≡ expired_of rules.now.file.now rs) }
     ensures kept { IfOk result

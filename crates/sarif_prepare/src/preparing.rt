@@ -10,34 +10,28 @@ ghost use Rattle.sarif_runs.specs.Internal.Opened.{placed_of};
 ghost use Rattle.sarif_runs.specs.Placed.{Placed};
 ghost use Rattle.sarif_results.specs.Drafts.{applied_of, drafts_by};
 ghost use Rattle.sarif_log.specs.Internal.Texts.{own_count, ArePartsOf, IsWholeRun};
-ghost use Rattle.sarif_log.specs.LogBy.{expired_of, listing_of, runs_by};
+ghost use Rattle.sarif_log.specs.LogBy.{expired_of, listing_of};
 ghost use Rattle.sarif_log.specs.Internal.Prepared.{IsPrepared};
 ghost use Rattle.sarif_results.specs.Internal.Judged.{placed_in, IsJudged};
 ghost use Rattle.sarif_upkeep.specs.Internal.IsMatched.{IsFileOf};
 ghost use Rattle.sarif_prepare.specs.Chosen.{chosen_merge};
 ghost use Rattle.sarif_prepare.specs.Kept.{bytes_of, change_in, IsKept, IsUnkept};
-ghost use Rattle.sarif_scope.specs.declared.gated.GatedChange.{GatedChange};
 ghost use Rattle.sarif_prepare.specs.Asked.{choice_in, reporting_in, upkeep_in};
-ghost use Rattle.sarif_prepare.specs.Internal.Keeping.{AreLookedAt, AreOfRuns};
+ghost use Rattle.sarif_prepare.specs.Told.{ruled_for, told_for};
 ghost use Rattle.sarif_prepare.specs.Internal.Together.{AreTogether, IsPaired};
-ghost use Rattle.sarif_log.specs.Told.{told_by, told_of};
 ghost use Rattle.sarif_model.specs.Limits.{most_runs};
 
 use crate::asked::Asked;
 use crate::baselines::gather_baselines;
 use crate::file_read::FileRead;
 use crate::halves::{Half, current_half};
-use crate::keeping::keep_if_asked;
 use crate::left::left_side;
 use crate::limiting::changes_of_all;
-use crate::outside::{facts_of, narrow_if};
-use crate::pairing::{Paired, PairedSides, Sides, pair_sides};
+use crate::pairing::{Paired, PairedSides, pair_sides};
 use crate::parts_of_runs::current_parts;
+use crate::reporting::report_sides;
 use crate::run_parts::count_without;
-use crate::telling::{tell_current, tell_left};
 use crate::unused::{count_expired, count_unused};
-use sarif_counts::Life;
-use sarif_findings::Finding;
 use sarif_log::{Prepared, Side, Spent};
 use sarif_model::{MergeFault, Record, State};
 use sarif_results::Judged;
@@ -57,62 +51,6 @@ pub(crate) struct CurrentSide {
     pub(crate) expired: u32,
     /// The records of their results.
     pub(crate) records: Vec<Record>,
-}
-
-/// Returns the findings of the written results of both sides, if they are requested.
-fn tell_both<R: Threads + Sync>(
-    rt: &R,
-    alloc: Global,
-    asked: &Asked<'_>,
-    sides: &Sides<'_, '_, '_>,
-) -> Result<Vec<Finding>, AllocError>
-    requires together { (file : File)
-        × (current_runs : List Placed) × (baseline_runs : List Placed)
-        × AreTogether file current_runs baseline_runs
-        sides.now.current.now sides.now.baselines.now }
-    requires paired { IsPaired asked.now.options.now.checks.matching
-        sides.now.current.now sides.now.baselines.now sides.now.paired.now }
-    ensures { IfOk result (λ findings. (file : File) (current_runs baseline_runs : List Placed)
-        → AreTogether file current_runs baseline_runs
-        sides.now.current.now sides.now.baselines.now
-        → findings.items
-        ≡ told_of (reporting_in asked.now)
-        (runs_by asked.now.options.now.checks.matching file current_runs baseline_runs)) }
-{
-    let paired = sides.paired;
-    let mut findings = tell_current(rt, alloc, asked, sides.current, &paired.states)?;
-    let left = &paired.left;
-    let mut absent = tell_left(rt, alloc, asked, sides.baselines, &paired.taken, left)?;
-    findings.append(&mut absent)?;
-    Ok(findings)
-}
-
-/// Returns the findings of the written results, if they are requested; with a change, of those inside.
-pub(crate) fn tell_results<R: Threads + Sync>(
-    rt: &R,
-    alloc: Global,
-    asked: &Asked<'_>,
-    sides: &Sides<'_, '_, '_>,
-) -> Result<Vec<Finding>, AllocError>
-    requires together { (file : File)
-        × (current_runs : List Placed) × (baseline_runs : List Placed)
-        × AreTogether file current_runs baseline_runs
-        sides.now.current.now sides.now.baselines.now }
-    requires paired { IsPaired asked.now.options.now.checks.matching
-        sides.now.current.now sides.now.baselines.now sides.now.paired.now }
-    requires narrowed { (change : Option GatedChange) × AreLookedAt change asked.now sides.now }
-    ensures { IfOk result (λ findings. (file : File) (current_runs baseline_runs : List Placed)
-        → AreTogether file current_runs baseline_runs
-        sides.now.current.now sides.now.baselines.now
-        → (change : Option GatedChange) → AreLookedAt change asked.now sides.now
-        → findings.items
-        ≡ told_by change (reporting_in asked.now)
-        (runs_by asked.now.options.now.checks.matching file current_runs baseline_runs)) }
-{
-    match sides.narrowed {
-        Some(narrowed) => tell_current(rt, alloc, asked, sides.current, &narrowed.states),
-        None => tell_both(rt, alloc, asked, sides),
-    }
 }
 
 /// Returns what is written for the runs of logs, whose results have these states.
@@ -161,51 +99,6 @@ fn current_side(
     })
 }
 
-/// What is reported about the results of logs and baselines, and what is for later merges.
-#[derive(Drop)]
-pub(crate) struct ToldSides {
-    pub(crate) findings: Vec<Finding>,
-    pub(crate) life: Life,
-}
-
-/// Returns what is reported about matched results, and what is for later merges.
-pub(crate) fn tell_sides<R: Threads + Sync>(
-    rt: &R,
-    alloc: Global,
-    sides: &Sides<'_, '_, '_>,
-    rules: &FileRead<'_>,
-    asked: &Asked<'_>,
-) -> Result<ToldSides, MergeFault>
-    requires read { IsFileOf (bytes_of rules.now) rules.now.file.now }
-    requires together { (current_runs : List Placed) × (baseline_runs : List Placed)
-        × AreOfRuns rules.now sides.now current_runs baseline_runs }
-    requires paired { IsPaired asked.now.options.now.checks.matching
-        sides.now.current.now sides.now.baselines.now sides.now.paired.now }
-    requires narrowed { AreLookedAt (change_in rules.now) asked.now sides.now }
-    ensures findings { IfOk result (λ told. (file : File) (current_runs baseline_runs : List Placed)
-        → AreTogether file current_runs baseline_runs
-        sides.now.current.now sides.now.baselines.now
-        → told.findings.items
-        ≡ told_by (change_in rules.now) (reporting_in asked.now)
-        (runs_by asked.now.options.now.checks.matching file current_runs baseline_runs)) }
-    ensures kept { (current_runs baseline_runs : List Placed)
-        → AreOfRuns rules.now sides.now current_runs baseline_runs
-        → IfOk result (λ told. IsKept (chosen_merge asked.now.options.now.checks
-        rules.now.file.now (bytes_of rules.now) (change_in rules.now)
-        asked.now.options.now.policy (choice_in asked.now) current_runs baseline_runs)
-        (upkeep_in asked.now) told.life) }
-    ensures unkept { (current_runs baseline_runs : List Placed)
-        → AreOfRuns rules.now sides.now current_runs baseline_runs
-        → IfErr result (IsUnkept (chosen_merge asked.now.options.now.checks
-        rules.now.file.now (bytes_of rules.now) (change_in rules.now)
-        asked.now.options.now.policy (choice_in asked.now) current_runs baseline_runs)
-        (upkeep_in asked.now)) }
-{
-    let findings = tell_results(rt, alloc, asked, sides)?;
-    let life = keep_if_asked(rt, alloc, sides, rules, asked)?;
-    Ok(ToldSides { findings, life })
-}
-
 /// Takes out of matched results what is written and reported, and what is for later merges.
 fn prepare_sides<R: Threads + Sync>(
     rt: &R,
@@ -224,7 +117,8 @@ fn prepare_sides<R: Threads + Sync>(
         sides.entry.current sides.entry.baselines
         → IsPrepared asked.now.options.now.checks.matching rules.now.file.now
         current_runs baseline_runs (change_in rules.now) asked.now.options.now.policy
-        (reporting_in asked.now) prepared) }
+        (ruled_for rules.now asked.now current_runs baseline_runs)
+        (told_for rules.now asked.now current_runs baseline_runs) prepared) }
     ensures kept { (current_runs baseline_runs : List Placed)
         → AreTogether rules.now.file.now current_runs baseline_runs
         sides.entry.current sides.entry.baselines
@@ -241,18 +135,7 @@ fn prepare_sides<R: Threads + Sync>(
         asked.now.options.now.policy (choice_in asked.now) current_runs baseline_runs)
         (upkeep_in asked.now)) }
 {
-    let paired = &sides.paired;
-    let narrowed = narrow_if(
-        rt,
-        alloc,
-        rules.change,
-        &sides.current,
-        paired,
-        asked.options,
-    )?;
-    let change = facts_of(rules.change, &narrowed);
-    let lent = sides.lend(&narrowed);
-    let ToldSides { findings, life } = tell_sides(rt, alloc, &lent, rules, asked)?;
+    let reported = report_sides(rt, alloc, &sides, rules, asked)?;
     let PairedSides {
         current,
         baselines,
@@ -282,9 +165,10 @@ fn prepare_sides<R: Threads + Sync>(
         without,
         unused,
         expired,
-        findings,
-        change,
-        life,
+        findings: reported.findings,
+        change: reported.change,
+        ruling: reported.ruling,
+        life: reported.life,
         copies: None,
         spent,
     })
@@ -311,7 +195,9 @@ pub fn prepare<R: Threads + Sync>(
     requires baseline { IsJudged rules.now.file.now true baseline }
     ensures prepared { IfOk result (IsPrepared asked.now.options.now.checks.matching
         rules.now.file.now (placed_in current.entry) (placed_in baseline.entry)
-        (change_in rules.now) asked.now.options.now.policy (reporting_in asked.now)) }
+        (change_in rules.now) asked.now.options.now.policy
+        (ruled_for rules.now asked.now (placed_in current.entry) (placed_in baseline.entry))
+        (told_for rules.now asked.now (placed_in current.entry) (placed_in baseline.entry))) }
     ensures kept { IfOk result
         (λ prepared. IsKept (chosen_merge asked.now.options.now.checks
         rules.now.file.now (bytes_of rules.now) (change_in rules.now)

@@ -1,7 +1,6 @@
 //! Collecting the findings of results, from the logs and baselines that they were read from.
 ghost use Rattle.std.specs.Prelude.{◌≡◌, ◌<◌, ◌≤◌, ◌++◌, ◌∷◌, [], IfOk, OnOk, Some, length, map};
 ghost use Rattle.std.specs.List.{All, cons_option};
-ghost use Rattle.sarif_model.specs.declared.kinds.State.TheVariants.{Absent};
 ghost use Rattle.sarif_model.specs.Run.{result_at, results_of};
 ghost use Rattle.sarif_prepare.specs.Internal.Leftover.{not_taken};
 ghost use Rattle.sarif_runs.specs.Internal.Opened.{placed_of};
@@ -14,7 +13,7 @@ ghost use Rattle.sarif_model.specs.Limits.{most_runs};
 use crate::asked::Asked;
 use crate::baselines::Baselines;
 use crate::halves::Half;
-use crate::left::absent_states;
+use crate::pairing::Paired;
 use crate::snippets::snippets_in;
 use crate::told::{ReportedResult, ReportedRun};
 use sarif_findings::{Finding, NamedRun, Reporting, ToldResult, finding_of};
@@ -199,31 +198,32 @@ fn left_spots(alloc: Global, spots: &[Spot], taken: &[bool]) -> Result<Vec<Spot>
     Ok(left)
 }
 
-/// Returns the findings of the baseline results that are not matched, which have these drafts, as absent.
+/// Returns the findings of the baseline results that are not matched, which have these states.
 pub(crate) fn tell_left<R: Threads + Sync>(
     rt: &R,
     alloc: Global,
     asked: &Asked<'_>,
     baselines: &Baselines<'_, '_>,
-    taken: &[bool],
-    drafts: &[Draft],
+    paired: &Paired,
+    states: &[Option<State>],
 ) -> Result<Vec<Finding>, AllocError>
     requires within { All (IsSpotOf (map placed_of baselines.now.runs.items))
         baselines.now.spots.items }
-    requires taken { length taken.now ≡ length baselines.now.spots.items }
-    requires drafts { length drafts.now
-        ≡ length (not_taken taken.now baselines.now.spots.items) }
+    requires taken { length paired.now.taken.items ≡ length baselines.now.spots.items }
+    requires drafts { length paired.now.left.items
+        ≡ length (not_taken paired.now.taken.items baselines.now.spots.items) }
+    requires states { length states.now ≡ length paired.now.left.items }
     ensures { IfOk result (λ findings. findings.items ≡ if_asked (reporting_in asked.now)
         (λ reporting. told_each reporting (map (pair_at (map placed_of baselines.now.runs.items))
-        (not_taken taken.now baselines.now.spots.items)) drafts.now
-        (map (λ _. Some Absent) drafts.now))) }
+        (not_taken paired.now.taken.items baselines.now.spots.items)) paired.now.left.items
+        states.now)) }
 {
     let Some(reporting) = asked.reporting else {
         return Ok(Vec::new(alloc));
     };
-    let spots = left_spots(alloc, &baselines.spots, taken)?;
-    let states = absent_states(alloc, drafts)?;
+    let spots = left_spots(alloc, &baselines.spots, &paired.taken)?;
+    let drafts = &paired.left;
     let runs = name_runs(alloc, &baselines.runs)?;
-    let told = list_told(alloc, reporting, &runs, &spots, drafts, &states)?;
+    let told = list_told(alloc, reporting, &runs, &spots, drafts, states)?;
     tell_all(rt, alloc, reporting, &told, asked.options.workers)
 }

@@ -25,6 +25,7 @@ same_facts request merged facts are = λ i. record {
   unused = are.unused i;
   life = Some (are.life i);
   change = are.change i;
+  ruling = are.ruling i;
 }
 
 -- the lines of the merge are those of these facts

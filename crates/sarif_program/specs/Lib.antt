@@ -5,4 +5,5 @@ pub mod Rejected
 pub mod Reports
 pub mod Run
 pub mod Status
+pub mod Summary
 pub mod Writing

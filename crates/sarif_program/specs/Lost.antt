@@ -10,7 +10,7 @@ use Rattle.sarif_model.specs.declared.merge_fault.Source.TheVariants.{Output}
 use Rattle.sarif_reports.specs.declared.report.Report.{Report}
 use Rattle.sarif_request.specs.declared.request.Request.{Request}
 use Rattle.sarif_request.specs.declared.wanted.RequestedOutput.{RequestedOutput}
-use Rattle.sarif_scope.specs.Told.{summary_told}
+use Rattle.sarif_program.specs.Summary.{summary_for}
 use Rattle.sarif_streams.specs.declared.counted.Counted.{Counted}
 use Rattle.sarif_streams.specs.Counted.{failed_calls, inner_of}
 use Rattle.sarif_program.specs.declared.complaint.Complaint.{Complaint}
@@ -42,7 +42,7 @@ texts_of_merge request merged = record {
   log = merged.log;
   report = report_for request merged;
   lines = lines_for request merged;
-  summary = summary_told merged.change (count_at merged.counts) request.options.policy;
+  summary = summary_for merged.ruling merged.change (count_at merged.counts) request.options.policy;
 }
 
 -- a call of this writer failed, and the writer received a prefix of its text

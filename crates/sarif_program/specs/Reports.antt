@@ -1,5 +1,5 @@
 -- The outputs of a run besides the merged log, and that they were written.
-use Rattle.std.specs.Prelude.{◌≡◌, ℕ, List, Option, Some, None, map, if◌then◌else◌}
+use Rattle.std.specs.Prelude.{◌≡◌, ℕ, List, Option, Some, None, map, option_map, if◌then◌else◌}
 use Rattle.std.specs.Io.KnownBytes.{Appends}
 use Rattle.std.specs.List.{AllZip, list_any, sum_by}
 use Rattle.sarif_log.specs.declared.facts.Facts.{Facts as MergeFacts}
@@ -43,6 +43,7 @@ facts_with request facts = record {
   unused = facts.unused;
   life = Some facts.life.now;
   change = facts.change;
+  ruling = option_map (λ ruling. ruling.now) facts.ruling;
 }
 
 -- what the outputs of this merge are made from
@@ -57,6 +58,7 @@ facts_for request merged = record {
   unused = merged.unused;
   life = Some merged.life;
   change = merged.change;
+  ruling = merged.ruling;
 }
 
 -- the text of an output of a merge with these facts

@@ -6,7 +6,7 @@ use Rattle.sarif_counts.specs.Counts.{count_at}
 use Rattle.sarif_log.specs.declared.merged.Merged.{Merged}
 use Rattle.sarif_merge.specs.FromReaders.{IsMergedWith}
 use Rattle.sarif_request.specs.declared.request.Request.{Request}
-use Rattle.sarif_scope.specs.Told.{summary_told}
+use Rattle.sarif_program.specs.Summary.{summary_for}
 use Rattle.sarif_streams.specs.declared.readers.Readers.{Readers}
 use Rattle.sarif_streams.specs.Counted.{failed_calls, inner_of, RisesIf}
 use Rattle.sarif_streams.specs.Room.{HaveRoom}
@@ -68,7 +68,7 @@ pub record IsAcceptedAs {R W S P E : Type 0} (views : Views R W S P E) (request 
       old.writers.reports.items new.writers.reports.items
   pub summary : Appends (views.held.summary (inner_of old.writers.say))
       (views.held.summary (inner_of new.writers.say))
-      (summary_told merged.change (count_at merged.counts) request.options.policy)
+      (summary_for merged.ruling merged.change (count_at merged.counts) request.options.policy)
   pub noted : AreNoted views.held.messages (lines_for request merged)
       old.complaints new.complaints
 

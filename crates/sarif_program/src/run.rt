@@ -1,5 +1,5 @@
 //! Serves a request, over readers and writers of any kind.
-ghost use Rattle.std.specs.Prelude.{◌≡◌, ◌<◌, ◌≤◌, ◌+◌, ◌↔◌, ◌⊎◌, false, nat_eq, IfOk, IfErr, Ok, Some};
+ghost use Rattle.std.specs.Prelude.{◌≡◌, ◌<◌, ◌≤◌, ◌+◌, ◌↔◌, ◌⊎◌, false, nat_eq, IfOk, IfErr, Ok, Some, option_map};
 ghost use Rattle.std.specs.List.{list_any};
 ghost use Rattle.sarif_log.specs.Beside.{IsMadeBy};
 ghost use Rattle.sarif_streams.specs.Counted.{RisesIf};
@@ -7,7 +7,7 @@ ghost use Rattle.sarif_streams.specs.Room.{HaveRoom};
 ghost use Rattle.sarif_model.specs.MergeFault.{read_failed_in, write_failed_in};
 ghost use Rattle.sarif_model.specs.declared.merge_fault.Cause.TheVariants.{OutOfMemory};
 ghost use Rattle.sarif_counts.specs.Counts.{count_at};
-ghost use Rattle.sarif_scope.specs.Told.{summary_told};
+ghost use Rattle.sarif_program.specs.Summary.{summary_for};
 ghost use Rattle.sarif_merge.specs.FromReaders.{IsMergedWith, IsRefusedWith};
 ghost use Rattle.sarif_streams.specs.WereRead.{failures, NoNumberFalls};
 ghost use Rattle.sarif_program.specs.Notes.{lines_for, lines_with};
@@ -131,7 +131,8 @@ fn merge_for<R: Read, W, T: Threads + Wait + Sync>(
         «request».now.options (reporting_for «request».now writers.now)
         «request».now.choice (Some «request».now.upkeep) all.0) }
     ensures summary { IfOk result (λ all. all.1.summary
-        ≡ summary_told all.0.change (count_at all.0.counts) «request».now.options.policy) }
+        ≡ summary_for all.0.ruling all.0.change (count_at all.0.counts)
+        «request».now.options.policy) }
     ensures lines { IfOk result (λ all. all.1.lines ≡ lines_for «request».now all.0) }
     ensures reports { IfOk result (λ all. all.1.reports.items
         ≡ texts_for writers.now (report_for «request».now all.0)) }
@@ -146,8 +147,8 @@ fn merge_for<R: Read, W, T: Threads + Wait + Sync>(
     let made = reporting_of(alloc, request, writers)?;
     let tell = move |facts: &Facts<'_>| -> Result<OutputTexts, AllocError>
         ensures summary { IfOk result (λ texts. texts.summary
-            ≡ summary_told facts.now.change (count_at facts.now.counts.now)
-            «request».entry.now.options.policy) }
+            ≡ summary_for (option_map (λ f. f.now) facts.now.ruling) facts.now.change
+            (count_at facts.now.counts.now) «request».entry.now.options.policy) }
         ensures lines { IfOk result
             (λ texts. texts.lines ≡ lines_with «request».entry.now facts.now) }
         ensures reports { IfOk result (λ texts. texts.reports.items ≡ texts_for writers.entry.now

@@ -1,15 +1,17 @@
 //! The outputs of a merge besides its log.
-ghost use Rattle.std.specs.Prelude.{◌≡◌, ◌≤◌, IfOk, map};
+ghost use Rattle.std.specs.Prelude.{◌≡◌, ◌≤◌, IfOk, map, option_map, string_bytes};
 ghost use Rattle.sarif_counts.specs.Counts.{count_at};
-ghost use Rattle.sarif_scope.specs.Told.{summary_told};
 ghost use Rattle.sarif_shown.specs.Facts.{facts_of};
 ghost use Rattle.sarif_reports.specs.Report.{report_of};
 ghost use Rattle.sarif_program.specs.Notes as notes;
 ghost use Rattle.sarif_program.specs.Reports.{report_with, wanted_reports, texts_for};
+ghost use Rattle.sarif_program.specs.Summary.{summary_for};
 
 use crate::notes::lines_with;
+use sarif_conditions::summary_of_policy;
 use sarif_log::Facts;
 use sarif_model::Text;
+use sarif_options::Policy;
 use sarif_reports::{Report, report_text};
 use sarif_request::{Request, RequestedOutput};
 use sarif_scope::summary_told;
@@ -109,10 +111,23 @@ fn reports_of<W, T: Threads + Sync>(
         unused: facts.unused,
         life: Some(facts.life),
         change: facts.change,
+        ruling: facts.ruling,
         seed: request.options.seed,
     };
     let reports = wanted_reports(alloc, writers)?;
     texts_told(rt, alloc, &told, reports, request.options.workers)
+}
+
+/// The table that is printed after a merge with these facts.
+fn summary_text(alloc: Global, facts: &Facts<'_>, policy: &Policy) -> Result<String, AllocError>
+    ensures { IfOk result (λ s. string_bytes s
+        ≡ summary_for (option_map (λ f. f.now) facts.now.ruling) facts.now.change
+        (count_at facts.now.counts.now) policy.now) }
+{
+    match facts.ruling {
+        Some(ruling) => summary_of_policy(alloc, facts.counts, ruling, &facts.change),
+        None => summary_told(alloc, facts.counts, policy, &facts.change),
+    }
 }
 
 /// Returns the summary of a merge with these facts, the lines after it, and the contents of the outputs that there are
@@ -125,13 +140,14 @@ pub(crate) fn texts_of<W, T: Threads + Sync>(
     writers: &[RequestedOutput<W>],
 ) -> Result<OutputTexts, AllocError>
     ensures summary { IfOk result (λ texts. texts.summary
-        ≡ summary_told facts.now.change (count_at facts.now.counts.now) request.now.options.policy) }
+        ≡ summary_for (option_map (λ f. f.now) facts.now.ruling) facts.now.change
+        (count_at facts.now.counts.now) request.now.options.policy) }
     ensures lines { IfOk result
         (λ texts. texts.lines ≡ notes.lines_with request.now facts.now) }
     ensures reports { IfOk result (λ texts. texts.reports.items
         ≡ texts_for writers.now (report_with request.now facts.now)) }
 {
-    let summary = summary_told(alloc, facts.counts, &request.options.policy, &facts.change)?;
+    let summary = summary_text(alloc, facts, &request.options.policy)?;
     let summary = Text::from_string(summary)?;
     let lines = lines_with(alloc, request, facts)?;
     let reports = reports_of(rt, alloc, facts, request, writers)?;

@@ -9,6 +9,7 @@ use Rattle.sarif_model.specs.declared.kinds.State.{State}
 use Rattle.sarif_model.specs.declared.kinds.State.TheVariants.{New, Unchanged, Updated, Absent}
 use Rattle.sarif_model.specs.Level.{level_name}
 use Rattle.sarif_model.specs.State.{state_name}
+use Rattle.sarif_counts.specs.Impacts.{is_hit}
 use Rattle.sarif_findings.specs.declared.code.Code.{Code}
 use Rattle.sarif_findings.specs.declared.finding.Finding.{Finding}
 use Rattle.sarif_findings.specs.CodeRows.{one_line}
@@ -109,7 +110,7 @@ line_reads true (Some code) = then_reads (outside (codes "<br>") refl) (code_rea
 
 place_reads : (link : Option (List ℕ)) (f : Finding) → Reads (place_cells link f) (link_attributes (place_link link f) None ++ [])
 place_reads link f =
-    then_reads (hit_reads f.hit) (then_reads (outside (level_name f.level) (level_unquoted f.level))
+    then_reads (hit_reads (is_hit f.impact)) (then_reads (outside (level_name f.level) (level_unquoted f.level))
     (then_reads bar_reads (then_reads (linked_reads (place_link link f) None (spot_text f)) bar_reads)))
 
 said_reads : (coded : Bool) (f : Finding) → Reads (rule_cells coded f) (rule_attributes f.rule f.help f.rule_name ++ [])

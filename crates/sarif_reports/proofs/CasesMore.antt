@@ -3,6 +3,7 @@ use Rattle.std.proofs.Common.{◌≡◌, ◌<◌, ◌≤◌, ◌+◌, ◌++◌, 
 use Rattle.std.specs.Borrow.{Bor}
 use Rattle.std.specs.HashMap.{HashMap, UpdatesBy, get_by_text}
 use Rattle.std.specs.declared.string.String.{String}
+use Rattle.std.specs.List.{count_by}
 use Rattle.std.specs.String.{string_eq}
 use Rattle.std.proofs.lemmas.Map.Text.{hash_map_updates_text}
 use Rattle.std.proofs.lemmas.Slice.Eq.{bytes_eq-Decides}
@@ -11,9 +12,9 @@ use Rattle.std.proofs.lemmas.List.Folds.{flat_map-map}
 use Rattle.std.proofs.lemmas.List.Sums.{sum_by-append, sum_by-cons, count_by-le-length}
 use Rattle.std.specs.declared.alloc.Global.{Global}
 use Rattle.std.specs.declared.vec.Vec.{Vec}
-use Rattle.sarif_counts.specs.declared.gate_verdict.Verdict.{Verdict}
+use Rattle.sarif_shown.specs.declared.stopping.Stopping.{Stopping}
 use Rattle.sarif_findings.specs.declared.finding.Finding.{Finding}
-use Rattle.sarif_reports.specs.JunitReport.{case_name, cases_after, hits_in, named_among, nth_name, plain_name, results_of, suite_of, suites_in, test_case, tools_of}
+use Rattle.sarif_reports.specs.JunitReport.{case_name, cases_after, named_among, nth_name, plain_name, results_of, suite_of, suites_in, test_case, tools_of}
 use Rattle.sarif_reports.specs.Internal.Suites.{Suite, counted, entry_text, pointed, seen_suite, suites_of, text_at}
 use Rattle.sarif_shown.proofs.LinesMore.{pointed_left}
 use Rattle.sarif_reports.proofs.SuitesMore.{apart_back, pointed_more}
@@ -21,21 +22,23 @@ use Rattle.sarif_reports.proofs.SuitesMore.{apart_back, pointed_more}
 pub length_pointed : (fs : List (Bor Finding)) → length (pointed fs) ≡ length fs
 length_pointed fs = length-map fs (λ x. x.now)
 
--- ---- hits
+-- ---- test cases of a kind
 
 pub one_at_most : (b : Bool) → (if b then 1 else 0) ≤ 1
 one_at_most true = omega arith
 one_at_most false = omega arith
 
-hits_by : (b : Bool) (f : Finding) (fs : List Finding) → f.hit ≡ b → hits_in (f ∷ fs) ≡ (if b then 1 else 0) + hits_in fs
-hits_by b f fs e = sum_by-cons (λ x. cond x.hit 1 0) f fs ∙ ap (λ t. cond t 1 0 + hits_in fs) e
+counted_by : (test : Finding → Bool) (b : Bool) (f : Finding) (fs : List Finding) → test f ≡ b
+    → count_by test (f ∷ fs) ≡ (if b then 1 else 0) + count_by test fs
+counted_by test b f fs e = sum_by-cons (λ x. cond (test x) 1 0) f fs ∙ ap (λ t. cond t 1 0 + count_by test fs) e
 
 -- one result less is left to count
-pub hits_step : (fs : List (Bor Finding)) (i : ℕ) (f : Bor Finding) (b : Bool) (old new whole : ℕ) → i < length fs → f ≡ get_or fs i f → f.now.hit ≡ b
-    → new ≡ (if b then 1 else 0) + old → old + hits_in (pointed (drop i fs)) ≡ whole → new + hits_in (pointed (drop (i + 1) fs)) ≡ whole
-hits_step fs i f b old new whole within is hit next held =
-    let left = ap hits_in (pointed_left fs i f within is) in
-    let first = hits_by b f.now (pointed (drop (i + 1) fs)) hit in
+pub counted_step : (test : Finding → Bool) (fs : List (Bor Finding)) (i : ℕ) (f : Bor Finding) (b : Bool) (old new whole : ℕ) → i < length fs
+    → f ≡ get_or fs i f → test f.now ≡ b → new ≡ (if b then 1 else 0) + old → old + count_by test (pointed (drop i fs)) ≡ whole
+    → new + count_by test (pointed (drop (i + 1) fs)) ≡ whole
+counted_step test fs i f b old new whole within is same next held =
+    let left = ap (count_by test) (pointed_left fs i f within is) in
+    let first = counted_by test b f.now (pointed (drop (i + 1) fs)) same in
     omega (arith, left, first, next, held)
 
 -- ---- names
@@ -86,7 +89,7 @@ count_updated m n plain w next updates name =
 -- ---- test cases
 
 -- one more test case is written
-pub cases_step : (v : Verdict) (fs : List (Bor Finding)) (i : ℕ) (f : Bor Finding) (n : ℕ) (old new whole : List ℕ) → i < length fs → f ≡ get_or fs i f
+pub cases_step : (v : Stopping) (fs : List (Bor Finding)) (i : ℕ) (f : Bor Finding) (n : ℕ) (old new whole : List ℕ) → i < length fs → f ≡ get_or fs i f
     → n ≡ named_among (pointed (take i fs)) (plain_name f.now)
     → new ≡ old ++ test_case v (nth_name (plain_name f.now) (n + 1)) f.now
     → old ++ cases_after v (pointed (take i fs)) (pointed (drop i fs)) ≡ whole
@@ -103,17 +106,17 @@ cases_step v fs i f n old new whole within is number written held =
 
 -- ---- suites
 
-abbrev suite_text : Verdict → Suite → List ℕ
+abbrev suite_text : Stopping → Suite → List ℕ
 suite_text v s = suite_of v s.0 s.1
 
 -- the suites of a table are those of its results
-pub suites_told : (v : Verdict) (es : List (Bor (List ℕ) × Vec (Bor Finding) Global)) (gs : List Finding) → map seen_suite es ≡ suites_of gs
+pub suites_told : (v : Stopping) (es : List (Bor (List ℕ) × Vec (Bor Finding) Global)) (gs : List Finding) → map seen_suite es ≡ suites_of gs
     → flat_map (entry_text v) es ≡ suites_in v gs
 suites_told v es gs seen =
     sym (flat_map-map (suite_text v) seen_suite es) ∙ ap (flat_map (suite_text v)) seen
     ∙ flat_map-map (suite_text v) (λ tool. (tool, results_of gs tool)) (tools_of gs)
 
-suite_left : (v : Verdict) (es : List (Bor (List ℕ) × Vec (Bor Finding) Global)) (i : ℕ) → i < length es
+suite_left : (v : Stopping) (es : List (Bor (List ℕ) × Vec (Bor Finding) Global)) (i : ℕ) → i < length es
     → flat_map (entry_text v) (drop i es) ≡ text_at v (slice_get es i) ++ flat_map (entry_text v) (drop (i + 1) es)
 suite_left v [] i within = absurd (omega (arith, within))
 suite_left v (e ∷ es) zero within = refl
@@ -122,7 +125,7 @@ suite_left v (e ∷ es) (suc i) within =
     suite_left v es i (omega (arith, within)) ∙ ap (λ k. text_at v (slice_get es i) ++ flat_map (entry_text v) (drop k (e ∷ es))) next
 
 -- one more suite is written
-pub suites_step : (v : Verdict) (es : List (Bor (List ℕ) × Vec (Bor Finding) Global)) (i : ℕ) (old new whole : List ℕ) → i < length es
+pub suites_step : (v : Stopping) (es : List (Bor (List ℕ) × Vec (Bor Finding) Global)) (i : ℕ) (old new whole : List ℕ) → i < length es
     → new ≡ old ++ text_at v (slice_get es i)
     → old ++ flat_map (entry_text v) (drop i es) ≡ whole → new ++ flat_map (entry_text v) (drop (i + 1) es) ≡ whole
 suites_step v es i old new whole within written held =

@@ -11,8 +11,12 @@ use Rattle.std.proofs.lemmas.List.Sums.{count_by-le-length, length-filter, sum_b
 use Rattle.std.proofs.lemmas.Str.{encode_ascii, encodes-append}
 use Rattle.sarif_model.specs.Level.{level_name}
 use Rattle.sarif_model.specs.State.{state_name}
-use Rattle.sarif_counts.specs.declared.gate_verdict.Verdict.{Verdict}
-use Rattle.sarif_counts.specs.declared.gate_verdict.Verdict.TheVariants.{Pass, Fail}
+use Rattle.sarif_shown.specs.declared.stopping.Stopping.{Stopping}
+use Rattle.sarif_shown.specs.declared.stopping.Stopping.TheVariants.{EachHit, NoHit, MarkedHit}
+use Rattle.sarif_shown.specs.Stopping.{is_let_pass, stops}
+use Rattle.sarif_counts.specs.declared.gate_verdict.Impact.{Impact}
+use Rattle.sarif_counts.specs.declared.gate_verdict.Impact.TheVariants as impacts
+use Rattle.sarif_counts.specs.Impacts.{is_hit}
 use Rattle.sarif_findings.specs.declared.finding.Finding.{Finding}
 use Rattle.sarif_findings.specs.Finding.{spot_text}
 use Rattle.sarif_findings.specs.ShownLaws.{is_seen, are_seen}
@@ -20,7 +24,7 @@ use Rattle.sarif_findings.proofs.ToldFindings.{IsPath, IsTold}
 use Rattle.sarif_shown.specs.declared.escaping.Escaping.TheVariants.{Page}
 use Rattle.sarif_shown.specs.Escaped.{escaped, escaped_char, page_char}
 use Rattle.sarif_shown.specs.EscapedLaws.{begins_entity, is_element_text, is_markup}
-use Rattle.sarif_reports.specs.JunitReport.{attribute, case_begin, case_name, cases_after, class_of, colon_rule, counted, document_begin, document_end, document_head, ends_numbered, failure, failure_end, failures_in, file_attribute, hit_end, hits_in, junit_document, line_attribute, named_among, nth_name, passed_document, plain_name, results_of, shown_line, skipped, skipped_end, skipped_in, suite_begin, suite_end, suite_of, suites_in, test_case, test_counts, tools_of}
+use Rattle.sarif_reports.specs.JunitReport.{attribute, case_begin, case_name, cases_after, class_of, colon_rule, counted, document_begin, document_end, document_head, end_by, ends_numbered, failure, failure_end, failures_in, file_attribute, junit_document, line_attribute, named_among, nth_name, passed_document, plain_name, results_of, shown_line, skipped, skipped_end, skipped_in, suite_begin, suite_end, suite_of, suites_in, test_case, test_counts, tools_of}
 use Rattle.sarif_reports.specs.JunitLaws.{cases_of, occurrences}
 use Rattle.sarif_reports.specs.Internal.Suites.{Suite, suites_of, with_result}
 use Rattle.sarif_shown.specs.TextReport.{bracketed, result_line}
@@ -339,51 +343,49 @@ skipped_piece f told =
 abbrev one_if : Bool → ℕ
 one_if b = if b then 1 else 0
 
-abbrev fails_one : Verdict → Bool → ℕ
-fails_one Fail hit = one_if hit
-fails_one Pass hit = 0
+abbrev fails_one : Stopping → Finding → ℕ
+fails_one v f = one_if (stops v f.impact)
 
-abbrev skips_one : Verdict → Bool → ℕ
-skips_one Fail hit = 0
-skips_one Pass hit = one_if hit
+abbrev skips_one : Stopping → Finding → ℕ
+skips_one v f = one_if (is_let_pass v f.impact)
 
 passed_end : Piece 0 0 0 (codes "/>\n")
 passed_end = quiet_piece (codes "/>\n") refl (ascii_lines (codes "/>\n") refl)
 
-end_by : (v : Verdict) (b : Bool) (f : Finding) → IsTold f → Piece 0 (fails_one v b) (skips_one v b) (if b then hit_end v f else codes "/>\n")
-end_by Fail true f told = failure_piece f told
-end_by Fail false f told = passed_end
-end_by Pass true f told = skipped_piece f told
-end_by Pass false f told = passed_end
+-- by whether a result stops the change, and whether it is a hit; what stops the change is a hit
+end_piece : (stop hit : Bool) (f : Finding) → (stop ≡ true → hit ≡ true) → IsTold f
+    → Piece 0 (one_if stop) (one_if (hit && not stop)) (end_by stop hit f)
+end_piece true true f sure told = failure_piece f told
+end_piece true false f sure told = absurd (true≢false (sym (sure refl)))
+end_piece false true f sure told = skipped_piece f told
+end_piece false false f sure told = passed_end
 
-case_piece : (v : Verdict) (name : List ℕ) (f : Finding) → IsSeenText name → IsTold f → Piece 1 (fails_one v f.hit) (skips_one v f.hit) (test_case v name f)
+pub stops_hits : (v : Stopping) (i : Impact) → stops v i ≡ true → is_hit i ≡ true
+stops_hits EachHit i e = e
+stops_hits NoHit i e = absurd (true≢false (sym e))
+stops_hits MarkedHit impacts.Stops e = refl
+stops_hits MarkedHit impacts.Hit e = refl
+stops_hits MarkedHit impacts.None e = e
+
+case_piece : (v : Stopping) (name : List ℕ) (f : Finding) → IsSeenText name → IsTold f → Piece 1 (fails_one v f) (skips_one v f) (test_case v name f)
 case_piece v name f is told =
-    as_piece 1 (fails_one v f.hit) (skips_one v f.hit) refl (omega arith) (omega arith) (then_piece (begin_piece name f is told) (end_by v f.hit f told))
+    as_piece 1 (fails_one v f) (skips_one v f) refl (omega arith) (omega arith)
+    (then_piece (begin_piece name f is told) (end_piece (stops v f.impact) (is_hit f.impact) f (stops_hits v f.impact) told))
 
 -- ---- the test cases of a suite
 
-fails_more : (v : Verdict) (f : Finding) (fs : List Finding) → failures_in v (f ∷ fs) ≡ fails_one v f.hit + failures_in v fs
-fails_more Fail f fs = sum_by-cons (λ x. cond x.hit 1 0) f fs
-fails_more Pass f fs = refl
+fails_more : (v : Stopping) (f : Finding) (fs : List Finding) → failures_in v (f ∷ fs) ≡ fails_one v f + failures_in v fs
+fails_more v f fs = sum_by-cons (λ x. cond (stops v x.impact) 1 0) f fs
 
-skips_more : (v : Verdict) (f : Finding) (fs : List Finding) → skipped_in v (f ∷ fs) ≡ skips_one v f.hit + skipped_in v fs
-skips_more Fail f fs = refl
-skips_more Pass f fs = sum_by-cons (λ x. cond x.hit 1 0) f fs
+skips_more : (v : Stopping) (f : Finding) (fs : List Finding) → skipped_in v (f ∷ fs) ≡ skips_one v f + skipped_in v fs
+skips_more v f fs = sum_by-cons (λ x. cond (is_let_pass v x.impact) 1 0) f fs
 
 nothing_piece : Piece 0 0 0 []
 nothing_piece = quiet_piece [] refl (ascii_lines [] refl)
 
-no_failures : (v : Verdict) → failures_in v [] ≡ 0
-no_failures Fail = refl
-no_failures Pass = refl
-
-no_skipped : (v : Verdict) → skipped_in v [] ≡ 0
-no_skipped Fail = refl
-no_skipped Pass = refl
-
-cases_piece : (v : Verdict) (before fs : List Finding) → AllByRecursion IsTold fs → length before + length fs < 2 ^ 64
+cases_piece : (v : Stopping) (before fs : List Finding) → AllByRecursion IsTold fs → length before + length fs < 2 ^ 64
     → Piece (length fs) (failures_in v fs) (skipped_in v fs) (cases_after v before fs)
-cases_piece v before [] told small = as_piece 0 (failures_in v []) (skipped_in v []) refl (sym (no_failures v)) (sym (no_skipped v)) nothing_piece
+cases_piece v before [] told small = nothing_piece
 cases_piece v before (f ∷ fs) told small =
     let few = count_by-le-length (λ x. bytes_eq (plain_name f) (plain_name x)) before in
     let long = length-append before (f ∷ []) in
@@ -394,15 +396,13 @@ cases_piece v before (f ∷ fs) told small =
 
 -- ---- suites
 
-fails_few : (v : Verdict) (fs : List Finding) → failures_in v fs ≤ length fs
-fails_few Fail fs = count_by-le-length (λ x. x.hit) fs
-fails_few Pass fs = omega arith
+fails_few : (v : Stopping) (fs : List Finding) → failures_in v fs ≤ length fs
+fails_few v fs = count_by-le-length (λ x. stops v x.impact) fs
 
-skips_few : (v : Verdict) (fs : List Finding) → skipped_in v fs ≤ length fs
-skips_few Fail fs = omega arith
-skips_few Pass fs = count_by-le-length (λ x. x.hit) fs
+skips_few : (v : Stopping) (fs : List Finding) → skipped_in v fs ≤ length fs
+skips_few v fs = count_by-le-length (λ x. is_let_pass v x.impact) fs
 
-counts_piece : (v : Verdict) (fs : List Finding) → length fs < 2 ^ 64 → Piece 0 0 0 (test_counts v fs)
+counts_piece : (v : Stopping) (fs : List Finding) → length fs < 2 ^ 64 → Piece 0 0 0 (test_counts v fs)
 unfolding test_counts
 counts_piece v fs small =
     let few = fails_few v fs in
@@ -424,7 +424,7 @@ suite_first =
 tag_last : Piece 0 0 0 (codes "\">\n")
 tag_last = quiet_piece (codes "\">\n") refl (ascii_lines (codes "\">\n") refl)
 
-suite_begins : (v : Verdict) (tool : List ℕ) (fs : List Finding) → IsSeenText tool → length fs < 2 ^ 64 → Piece 0 0 0 (suite_begin v tool fs)
+suite_begins : (v : Stopping) (tool : List ℕ) (fs : List Finding) → IsSeenText tool → length fs < 2 ^ 64 → Piece 0 0 0 (suite_begin v tool fs)
 unfolding suite_begin
 suite_begins v tool fs is small =
     let few = skips_few v fs in
@@ -446,7 +446,7 @@ record IsGood (s : Suite) : Type 0 where
   told : AllByRecursion IsTold s.1
   small : length s.1 < 2 ^ 64
 
-suite_piece : (v : Verdict) (s : Suite) → IsGood s → Piece (length s.1) (failures_in v s.1) (skipped_in v s.1) (suite_of v s.0 s.1)
+suite_piece : (v : Stopping) (s : Suite) → IsGood s → Piece (length s.1) (failures_in v s.1) (skipped_in v s.1) (suite_of v s.0 s.1)
 suite_piece v s good =
     let small = good.small in
     as_piece (length s.1) (failures_in v s.1) (skipped_in v s.1) (omega arith) (omega arith) (omega arith)
@@ -455,7 +455,7 @@ suite_piece v s good =
 abbrev total : (List Finding → ℕ) → List Suite → ℕ
 total size suites = sum_by (λ s. size s.1) suites
 
-all_suites : (v : Verdict) (suites : List Suite) → AllByRecursion IsGood suites
+all_suites : (v : Stopping) (suites : List Suite) → AllByRecursion IsGood suites
     → Piece (total length suites) (total (failures_in v) suites) (total (skipped_in v) suites) (flat_map (λ s. suite_of v s.0 s.1) suites)
 all_suites v [] good = nothing_piece
 all_suites v (s ∷ suites) good =
@@ -502,19 +502,17 @@ total_is size is fs = total_after size is [] fs (sym is.zero)
 length_size : IsSize length
 length_size = record { zero = refl; more = λ gs f. length-append gs (f ∷ []) }
 
-hits_size : IsSize hits_in
-hits_size = record { zero = refl; more = λ gs f. sum_by-append (λ x. cond x.hit 1 0) gs (f ∷ []) }
+fails_size : (v : Stopping) → IsSize (failures_in v)
+fails_size v = record { zero = refl; more = λ gs f. sum_by-append (λ x. cond (stops v x.impact) 1 0) gs (f ∷ []) }
 
-none_size : IsSize (λ gs. 0)
-none_size = record { zero = refl; more = λ gs f. refl }
+skips_size : (v : Stopping) → IsSize (skipped_in v)
+skips_size v = record { zero = refl; more = λ gs f. sum_by-append (λ x. cond (is_let_pass v x.impact) 1 0) gs (f ∷ []) }
 
-fails_total : (v : Verdict) (fs : List Finding) → total (failures_in v) (suites_of fs) ≡ failures_in v fs
-fails_total Fail fs = total_is hits_in hits_size fs
-fails_total Pass fs = total_is (λ gs. 0) none_size fs
+fails_total : (v : Stopping) (fs : List Finding) → total (failures_in v) (suites_of fs) ≡ failures_in v fs
+fails_total v fs = total_is (failures_in v) (fails_size v) fs
 
-skips_total : (v : Verdict) (fs : List Finding) → total (skipped_in v) (suites_of fs) ≡ skipped_in v fs
-skips_total Fail fs = total_is (λ gs. 0) none_size fs
-skips_total Pass fs = total_is hits_in hits_size fs
+skips_total : (v : Stopping) (fs : List Finding) → total (skipped_in v) (suites_of fs) ≡ skipped_in v fs
+skips_total v fs = total_is (skipped_in v) (skips_size v) fs
 
 -- ---- the suites of results of a log
 
@@ -540,7 +538,7 @@ all_good fs (t ∷ tools) told small seen =
       all_good fs tools told small seen.1,
     )
 
-suites_piece : (v : Verdict) (fs : List Finding) → AllByRecursion IsTold fs → length fs < 2 ^ 64
+suites_piece : (v : Stopping) (fs : List Finding) → AllByRecursion IsTold fs → length fs < 2 ^ 64
     → Piece (length fs) (failures_in v fs) (skipped_in v fs) (suites_in v fs)
 suites_piece v fs told small =
     let whole = all_suites v (suites_of fs) (all_good fs (tools_of fs) told small (tools_seen fs told)) in
@@ -561,18 +559,18 @@ passed_piece : Piece 1 0 0 passed_document
 unfolding passed_document
 passed_piece = record { cases = λ more. refl; failures = λ more. none refl; skips = λ more. none refl; lines = ascii_lines passed_document refl }
 
-document_begins : (v : Verdict) (fs : List Finding) → length fs < 2 ^ 64 → Piece 0 0 0 (document_begin v fs)
+document_begins : (v : Stopping) (fs : List Finding) → length fs < 2 ^ 64 → Piece 0 0 0 (document_begin v fs)
 unfolding document_begin
 document_begins v fs small = as_piece 0 0 0 refl refl refl (then_piece head_piece (then_piece (counts_piece v fs small) tag_last))
 
-nothing_in : (v : Verdict) (fs : List Finding) → (length fs == 0) ≡ true → (failures_in v fs ≡ 0) × (skipped_in v fs ≡ 0)
+nothing_in : (v : Stopping) (fs : List Finding) → (length fs == 0) ≡ true → (failures_in v fs ≡ 0) × (skipped_in v fs ≡ 0)
 nothing_in v fs none =
     let size = eqb-true (length fs) 0 none in
     let few = fails_few v fs in
     let few' = skips_few v fs in
     (omega (arith, size, few), omega (arith, size, few'))
 
-document_by : (b : Bool) (v : Verdict) (fs : List Finding) → (length fs == 0) ≡ b → AllByRecursion IsTold fs → length fs < 2 ^ 64
+document_by : (b : Bool) (v : Stopping) (fs : List Finding) → (length fs == 0) ≡ b → AllByRecursion IsTold fs → length fs < 2 ^ 64
     → Piece (if b then 1 else length fs) (failures_in v fs) (skipped_in v fs)
     (if b then passed_document else document_begin v fs ++ (suites_in v fs ++ document_end))
 document_by true v fs e told small =
@@ -582,6 +580,6 @@ document_by false v fs e told small =
     as_piece (length fs) (failures_in v fs) (skipped_in v fs) (omega arith) (omega arith) (omega arith)
     (then_piece (document_begins v fs small) (then_piece (suites_piece v fs told small) last_piece))
 
-pub document_piece : (v : Verdict) (fs : List Finding) → AllByRecursion IsTold fs → length fs < 2 ^ 64
+pub document_piece : (v : Stopping) (fs : List Finding) → AllByRecursion IsTold fs → length fs < 2 ^ 64
     → Piece (cases_of (length fs)) (failures_in v fs) (skipped_in v fs) (junit_document v fs)
 document_piece v fs told small = document_by (length fs == 0) v fs refl told small

@@ -2,12 +2,14 @@ pub mod AddressRows
 pub mod ArrayRead
 pub mod AttributesApart
 pub mod CasesMore
+pub mod ConditionsShort
 pub mod GitlabMore
 pub mod HashedApart
 pub mod JunitApart
 pub mod JunitLaws
 pub mod MarkdownShort
 pub mod NamesApart
+pub mod PolicyFindings
 pub mod RowsApart
 pub mod SuitesMore
 pub mod TableRows

@@ -1,5 +1,5 @@
 -- The length of the report in Markdown.
-use Rattle.std.proofs.Common.{◌==◌, ◌<◌, ◌≤◌, ◌+◌, ◌^◌, ◌++◌, ℕ, Bool, true, false, List, [], ◌∷◌, Option, Some, None, codes, decimal, flat_map, length, length-append, if◌then◌else◌, arith}
+use Rattle.std.proofs.Common.{◌==◌, ◌<◌, ◌≤◌, ◌+◌, ◌^◌, ◌++◌, ℕ, Bool, true, false, List, [], ◌∷◌, Option, Some, None, IfSome, codes, decimal, flat_map, length, length-append, if◌then◌else◌, arith}
 use Rattle.std.proofs.lemmas.Fmt.{length-decimal-le}
 use Rattle.sarif_model.specs.declared.kinds.Level.{Level}
 use Rattle.sarif_model.specs.declared.kinds.State.{State}
@@ -21,15 +21,23 @@ use Rattle.sarif_counts.specs.Summary.{suppressed_of}
 use Rattle.sarif_findings.specs.declared.finding.Finding.{Finding}
 use Rattle.sarif_shown.specs.CountRow.{row_begin, row_end}
 use Rattle.sarif_shown.specs.Facts.{Facts}
-use Rattle.sarif_reports.specs.MarkdownLaws.{AreSmall, most_of}
-use Rattle.sarif_reports.specs.MarkdownReport.{accept_line, count_row, counts_table, heading, in_table, last_lines, left_out, line_if, markdown_of, notes, others_line, paragraph, results_table, row_text, table_of, unshown_line}
-use Rattle.sarif_shown.specs.Sentences.{accept_text, counted, entries_text, gate_end, gate_text, hits_text, more_hits, more_of_both, more_others, more_text, outside_text, runs_text, unshown_text}
-use Rattle.sarif_scope.specs.Told.{hits_told, outside_told, verdict_told}
+use Rattle.sarif_conditions.specs.Facts.{failed_told}
+use Rattle.sarif_conditions.specs.declared.facts.ConditionFacts.{ConditionFacts}
+use Rattle.sarif_conditions.specs.declared.facts.PolicyFacts.{PolicyFacts}
+use Rattle.sarif_reports.specs.MarkdownLaws.{AreSmall, AreSmallOfPolicy, most_of, most_with}
+use Rattle.sarif_reports.specs.MarkdownReport.{accept_line, condition_rows, conditions_head, conditions_table, count_row, counts_table, head_for, heading, in_table, last_lines, left_out, line_if, markdown_of, notes, others_line, paragraph, results_head, results_table, room_for, row_text, unshown_line}
+use Rattle.sarif_shown.specs.Ruled.{end_ruled, gate_ending, gate_hits, gate_verdict, left_by, most_of_ending, noted_in, outside_ruled, unshown_results, unshown_ruled}
+use Rattle.sarif_shown.specs.Sentences.{accept_text, counted, entries_text, filters_text, gate_text, more_hits, more_of_both, more_others, more_text, outside_text, runs_text, unchecked_text, unshown_text}
+use Rattle.sarif_shown.specs.declared.noted.Noted.{Noted}
+use Rattle.sarif_shown.proofs.EndingShort.{conditions_few, end_few as ending_few}
+use Rattle.sarif_scope.specs.Told.{hits_told, outside_told}
 use Rattle.sarif_scope.specs.declared.facts.ChangeFacts.{ChangeFacts}
 use Rattle.sarif_shown.specs.Unshown.{reported_told, unshown_number}
 use Rattle.sarif_findings.specs.declared.reporting.Show.{Show}
 use Rattle.sarif_findings.specs.declared.reporting.Show.TheVariants.{Hits, All}
 use Rattle.sarif_reports.proofs.TableRows.{hits_few, results_parted, table_fits, state_few}
+use Rattle.std.specs.Option.{option_map_or}
+use Rattle.std.proofs.lemmas.List.Sums.{count_by-le-length}
 
 -- two strings in sequence
 two : (m n : ℕ) (a b : List ℕ) → length a ≤ m → length b ≤ n → length (a ++ b) ≤ m + n
@@ -62,18 +70,12 @@ verdict_few : (v : Verdict) → length (verdict_name v) ≤ 4
 verdict_few Pass = omega arith
 verdict_few Fail = omega arith
 
-heading_few : (v : Verdict) (hits max : ℕ) → hits < 2 ^ 64 → max < 2 ^ 32 → length (heading v hits max) ≤ 70
-heading_few v hits max h m =
-    let allowed : length (codes ", " ++ (decimal max ++ codes " allowed")) ≤ 20 =
-    two 2 18 (codes ", ") (decimal max ++ codes " allowed") (omega arith) (two 10 8 (decimal max) (codes " allowed") (ten max m) (omega arith)) in
-    let end : length (gate_end hits max) ≤ 47 =
-    two 2 45 (codes ", ") (hits_text hits ++ (codes ", " ++ (decimal max ++ codes " allowed"))) (omega arith)
-    (two 25 20 (hits_text hits) (codes ", " ++ (decimal max ++ codes " allowed"))
-    (counted_few 20 5 hits (codes " hit") (codes " hits") (twenty hits h) (omega arith) (omega arith)) allowed) in
-    let gate : length (gate_text v hits max) ≤ 57 =
-    two 6 51 (codes "Gate: ") (verdict_name v ++ gate_end hits max) (omega arith) (two 4 47 (verdict_name v) (gate_end hits max) (verdict_few v) end) in
-    let line : length (gate_text v hits max ++ codes "\n\n") ≤ 59 = two 57 2 (gate_text v hits max) (codes "\n\n") gate (omega arith) in
-    two 11 59 (codes "## ") (gate_text v hits max ++ codes "\n\n") (omega arith) line
+heading_few : (v : Verdict) (end : List ℕ) (k : ℕ) → length end ≤ k → length (heading v end) ≤ k + 15
+heading_few v end k h =
+    let name = verdict_few v in
+    let a = length-append (gate_text v end) (codes "\n\n") in
+    let b = length-append (verdict_name v) end in
+    omega (arith, name, a, b, h)
 
 line_by : (b : Bool) (k : ℕ) (text : List ℕ) → length text ≤ k → length (if b then [] else text ++ codes "\n") ≤ k + 1
 line_by true k text h = omega arith
@@ -93,17 +95,62 @@ outside_few None h = omega arith
 outside_few (Some facts) h =
     line_few 52 facts.outside _ (counted_few 10 42 facts.outside _ _ (ten facts.outside h) (omega arith) (omega arith))
 
-notes_few : (without unused : ℕ) (change : Option ChangeFacts) → without < 2 ^ 32 → unused < 2 ^ 32 → outside_told change < 2 ^ 32
-    → length (notes without unused (outside_told change)) ≤ 121 + room_of change
-notes_few without unused change w u o =
-    let last : List ℕ = line_if (outside_told change) (outside_text (outside_told change)) in
-    let first : length (line_if without (runs_text without)) ≤ 75 =
-    line_few 74 without _ (counted_few 10 64 without _ _ (ten without w) (omega arith) (omega arith)) in
-    let next : length (line_if unused (entries_text unused) ++ last) ≤ 46 + room_of change =
-    two 46 (room_of change) (line_if unused (entries_text unused)) last
-    (line_few 45 unused _ (counted_few 10 35 unused _ _ (ten unused u) (omega arith) (omega arith))) (outside_few change o) in
-    let whole = length-append (line_if without (runs_text without)) (line_if unused (entries_text unused) ++ last) in
-    omega (arith, first, next, whole)
+-- the numbers of what wasn't looked at have 32 bits
+pub record AreFew (n : Noted) : Type 0 where
+  pub without : n.without < 2 ^ 32
+  pub unused : n.unused < 2 ^ 32
+  pub filters : n.filters < 2 ^ 32
+  pub outside : n.outside < 2 ^ 32
+  pub unchecked : n.unchecked < 2 ^ 32
+
+-- these numbers, by what they are made from
+abbrev noted_by : Option PolicyFacts → ℕ → ℕ → ℕ → Noted
+noted_by ruling without unused outside = record {
+  without = without;
+  unused = unused;
+  filters = option_map_or (λ (one : PolicyFacts). one.unused_filters) ruling 0;
+  outside = outside_ruled ruling outside;
+  unchecked = option_map_or (λ (one : PolicyFacts). one.unchecked) ruling 0;
+}
+
+abbrev notes_room : Option PolicyFacts → Option ChangeFacts → ℕ
+notes_room None change = 121 + room_of change
+notes_room (Some ruling) change = 217
+
+runs_few : (n : ℕ) → n < 2 ^ 32 → length (line_if n (runs_text n)) ≤ 75
+runs_few n h = line_few 74 n (runs_text n) (counted_few 10 64 n _ _ (ten n h) (omega arith) (omega arith))
+
+entries_few : (n : ℕ) → n < 2 ^ 32 → length (line_if n (entries_text n)) ≤ 46
+entries_few n h = line_few 45 n (entries_text n) (counted_few 10 35 n _ _ (ten n h) (omega arith) (omega arith))
+
+filters_few : (n : ℕ) → n < 2 ^ 32 → length (line_if n (filters_text n)) ≤ 49
+filters_few n h = line_few 48 n (filters_text n) (counted_few 10 38 n _ _ (ten n h) (omega arith) (omega arith))
+
+unchecked_few : (n : ℕ) → n < 2 ^ 32 → length (line_if n (unchecked_text n)) ≤ 47
+unchecked_few n h =
+    line_few 46 n (unchecked_text n)
+    (two 20 26 (codes "No condition checks ") _ (omega arith) (counted_few 10 16 n _ _ (ten n h) (omega arith) (omega arith)))
+
+five : (m n o p q : ℕ) (a b c d e : List ℕ) → length a ≤ m → length b ≤ n → length c ≤ o → length d ≤ p → length e ≤ q
+    → length (a ++ (b ++ (c ++ (d ++ e)))) ≤ m + (n + (o + (p + q)))
+five m n o p q a b c d e x y z v w = two m _ a _ x (two n _ b _ y (two o _ c _ z (two p q d e v w)))
+
+notes_by : (ruling : Option PolicyFacts) (change : Option ChangeFacts) (without unused : ℕ)
+    → AreFew (noted_by ruling without unused (outside_told change))
+    → length (notes (noted_by ruling without unused (outside_told change))) ≤ notes_room ruling change
+notes_by None change without unused few =
+    let whole =
+    five 75 46 0 (room_of change) 0 (line_if without (runs_text without)) (line_if unused (entries_text unused)) []
+    (line_if (outside_told change) (outside_text (outside_told change))) [] (runs_few without few.without) (entries_few unused few.unused) (omega arith)
+    (outside_few change few.outside) (omega arith) in
+    omega (arith, whole)
+notes_by (Some ruling) change without unused few =
+    let whole =
+    five 75 46 49 0 47 (line_if without (runs_text without)) (line_if unused (entries_text unused))
+    (line_if ruling.unused_filters (filters_text ruling.unused_filters)) [] (line_if ruling.unchecked (unchecked_text ruling.unchecked))
+    (runs_few without few.without) (entries_few unused few.unused) (filters_few ruling.unused_filters few.filters) (omega arith)
+    (unchecked_few ruling.unchecked few.unchecked) in
+    omega (arith, whole)
 
 more_by : (all none : Bool) (n hits : ℕ) → n < 2 ^ 64 → hits < 2 ^ 64
     → length (if all then more_hits n else (if none then more_others n else more_of_both n hits)) ≤ 92
@@ -173,17 +220,31 @@ counts_few count small =
 
 -- ---- the whole report
 
-table_few : (link : Option (List ℕ)) (fs : List Finding) → length fs < 2 ^ 64 → length (table_of link fs) ≤ 60184
-table_few link fs small =
-    let parts = results_parted link fs in
-    two 90 60094 (codes "\n| hit | level | place | rule | message | tool | state |\n|---|---|---|---|---|---|---|\n")
-    (flat_map (row_text link) (in_table link fs) ++ paragraph (others_line (left_out link fs)))
-    (omega arith) (two 60000 94 (flat_map (row_text link) (in_table link fs)) (paragraph (others_line (left_out link fs))) (table_fits link fs)
-    (paragraph_few 93 (others_line (left_out link fs)) (others_few (left_out link fs) (omega (arith, parts, small)))))
+head_by : (b : Bool) → length (if b then [] else results_head) ≤ 90
+head_by true = omega arith
+head_by false = omega arith
 
-results_by : (b : Bool) (link : Option (List ℕ)) (fs : List Finding) → length fs < 2 ^ 64 → length (if b then [] else table_of link fs) ≤ 60184
-results_by true link fs small = omega arith
-results_by false link fs small = table_few link fs small
+table_few : (link : Option (List ℕ)) (room : ℕ) (fs : List Finding) → length fs < 2 ^ 64 → length (results_table link room fs) ≤ room + 184
+table_few link room fs small =
+    let rows : List ℕ = flat_map (row_text link) (in_table link room fs) in
+    let more : List ℕ = paragraph (others_line (left_out link room fs)) in
+    let parts = results_parted link room fs in
+    let first = head_by (length (in_table link room fs) == 0) in
+    let fits = table_fits link room fs in
+    let last = paragraph_few 93 (others_line (left_out link room fs)) (others_few (left_out link room fs) (omega (arith, parts, small))) in
+    let a = length-append (head_for (length (in_table link room fs))) (rows ++ more) in
+    let b = length-append rows more in
+    omega (arith, first, fits, last, a, b)
+
+-- the bytes of the table of conditions
+abbrev conditions_room : Option PolicyFacts → ℕ
+conditions_room None = 0
+conditions_room (Some ruling) = 80 + length (condition_rows ruling.conditions)
+
+conditions_table_few : (ruling : Option PolicyFacts) → length (conditions_table ruling) ≤ conditions_room ruling
+conditions_table_few None = omega arith
+conditions_table_few (Some ruling) =
+    two 80 (length (condition_rows ruling.conditions)) conditions_head (condition_rows ruling.conditions) (omega arith) (omega arith)
 
 -- at most sixteen of the counts are hits
 side_hits : (b : Bool) (n : ℕ) → n < 2 ^ 32 → count_if b n < 2 ^ 32
@@ -225,33 +286,79 @@ all_unshown : (change : Option ChangeFacts) (show : Show) (count : Count) (polic
 all_unshown change All count policy small = omega arith
 all_unshown change Hits count policy small = let all = all_reported change count policy small in omega (arith, all)
 
--- what a change adds fits into what it may add
-most_by : (change : Option ChangeFacts) (n : ℕ) → n ≤ 60999 + room_of change → n ≤ most_of change
-most_by None n h = omega (arith, h)
-most_by (Some facts) n h = omega (arith, h)
+left_few : (show : Show) (ruling : PolicyFacts) → ruling.reported < 2 ^ 32 → left_by show ruling < 2 ^ 36
+left_few All ruling h = omega arith
+left_few Hits ruling h = omega (arith, h)
 
-pub report_few : (facts : Facts) → AreSmall facts → length (markdown_of facts) ≤ most_of facts.change
-report_few facts small =
-    let verdict = verdict_told facts.change facts.count facts.policy in
-    let hits = hits_told facts.change facts.count facts.policy in
-    let unshown = unshown_number facts.change facts.show facts.count facts.policy in
-    let few = all_told facts.change facts.count facts.policy small.counts in
-    let ends : List ℕ = last_lines unshown hits in
-    let results : List ℕ = results_table facts.link facts.findings ++ ends in
-    let sentences : List ℕ = paragraph (notes facts.without facts.unused (outside_told facts.change)) in
-    let noted : List ℕ = sentences ++ results in
-    let top = heading_few verdict hits facts.policy.max (omega (arith, few)) small.max in
-    let counts = counts_few facts.count small.counts in
+unshown_by : (ruling : Option PolicyFacts) (show : Show) (n : ℕ) → n < 2 ^ 36 → IfSome ruling AreSmallOfPolicy → unshown_ruled ruling show n < 2 ^ 36
+unshown_by None show n h small = h
+unshown_by (Some ruling) show n h small = left_few show ruling small.reported
+
+ending_by : (ruling : Option PolicyFacts) (hits max : ℕ) → hits < 2 ^ 64 → max < 2 ^ 32 → IfSome ruling AreSmallOfPolicy
+    → length (end_ruled ruling hits max) ≤ most_of_ending ruling
+ending_by None hits max h m small = ending_few hits max h m
+ending_by (Some ruling) hits max h m small =
+    let failed = count_by-le-length (λ (c : ConditionFacts). c.fails) ruling.conditions in
+    let all = small.conditions in
+    conditions_few ruling.hits (failed_told ruling) (length ruling.conditions) small.hits (omega (arith, failed, all)) small.conditions
+
+few_by : (ruling : Option PolicyFacts) (without unused outside : ℕ) → without < 2 ^ 32 → unused < 2 ^ 32 → outside < 2 ^ 32 → IfSome ruling AreSmallOfPolicy
+    → AreFew (noted_by ruling without unused outside)
+few_by None without unused outside w u o small =
+    record { without = w; unused = u; filters = omega arith; outside = o; unchecked = omega arith }
+few_by (Some ruling) without unused outside w u o small =
+    record { without = w; unused = u; filters = small.filters; outside = omega arith; unchecked = small.unchecked }
+
+-- what a change or a policy adds fits into what it may add
+most_by : (ruling : Option PolicyFacts) (change : Option ChangeFacts) (n : ℕ)
+    → n ≤ (most_of_ending ruling + 415) + (notes_room ruling change + (conditions_room ruling + (room_for ruling + 408)))
+    → n ≤ most_with ruling change
+most_by None None n h = omega (arith, h)
+most_by None (Some change) n h = omega (arith, h)
+most_by (Some ruling) change n h = omega (arith, h)
+
+-- the sizes of the parts of a report
+pub record AreShort (facts : Facts) : Type 0 where
+  pub counts : (s : State) (l : Level) (b : Bool) → facts.count s l b < 2 ^ 32
+  pub ending : length (gate_ending facts) ≤ most_of_ending facts.ruling
+  pub few : AreFew (noted_in facts)
+  pub unshown : unshown_results facts < 2 ^ 36
+  pub findings : length facts.findings < 2 ^ 64
+
+pub short_report : (facts : Facts) → AreShort facts → length (markdown_of facts) ≤ most_of facts
+short_report facts short =
+    let ends : List ℕ = last_lines (unshown_results facts) (gate_hits facts) in
+    let results : List ℕ = results_table facts.link (room_for facts.ruling) facts.findings in
+    let conditions : List ℕ = conditions_table facts.ruling in
+    let sentences : List ℕ = paragraph (notes (noted_in facts)) in
+    let counts : List ℕ = counts_table facts.count in
+    let top = heading_few (gate_verdict facts) (gate_ending facts) (most_of_ending facts.ruling) short.ending in
+    let second = counts_few facts.count short.counts in
     let said =
-    paragraph_few (121 + room_of facts.change) (notes facts.without facts.unused (outside_told facts.change))
-    (notes_few facts.without facts.unused facts.change small.without small.unused small.outside) in
-    let last =
-    two 60184 223 (results_table facts.link facts.findings) ends (results_by (length facts.findings == 0) facts.link facts.findings small.findings)
-    (last_few unshown hits (all_unshown facts.change facts.show facts.count facts.policy small.counts)) in
-    let first = length-append (heading verdict hits facts.policy.max) (counts_table facts.count ++ noted) in
-    let second = length-append (counts_table facts.count) noted in
-    let third = length-append sentences results in
-    most_by facts.change (length (markdown_of facts)) (omega (arith, top, counts, said, last, first, second, third))
+    paragraph_few (notes_room facts.ruling facts.change) (notes (noted_in facts))
+    (notes_by facts.ruling facts.change facts.without facts.unused short.few) in
+    let third = conditions_table_few facts.ruling in
+    let fourth = table_few facts.link (room_for facts.ruling) facts.findings short.findings in
+    let last = last_few (unshown_results facts) (gate_hits facts) short.unshown in
+    let a = length-append (heading (gate_verdict facts) (gate_ending facts)) (counts ++ (sentences ++ (conditions ++ (results ++ ends)))) in
+    let b = length-append counts (sentences ++ (conditions ++ (results ++ ends))) in
+    let c = length-append sentences (conditions ++ (results ++ ends)) in
+    let d = length-append conditions (results ++ ends) in
+    let e = length-append results ends in
+    most_by facts.ruling facts.change (length (markdown_of facts)) (omega (arith, top, second, said, third, fourth, last, a, b, c, d, e))
+
+pub report_few : (facts : Facts) → AreSmall facts → length (markdown_of facts) ≤ most_of facts
+report_few facts small =
+    let hits = all_told facts.change facts.count facts.policy small.counts in
+    short_report facts (record {
+      counts = small.counts;
+      ending = ending_by facts.ruling (hits_told facts.change facts.count facts.policy) facts.policy.max (omega (arith, hits)) small.max small.ruling;
+      few = few_by facts.ruling facts.without facts.unused (outside_told facts.change) small.without small.unused small.outside small.ruling;
+      unshown =
+          unshown_by facts.ruling facts.show (unshown_number facts.change facts.show facts.count facts.policy)
+          (all_unshown facts.change facts.show facts.count facts.policy small.counts) small.ruling;
+      findings = small.findings;
+    })
 
 -- ---- the counts of a merge have 32 bits
 

@@ -14,6 +14,7 @@ use Rattle.sarif_model.specs.declared.kinds.State.{State}
 use Rattle.sarif_model.specs.declared.kinds.State.TheVariants.{New, Unchanged, Updated, Absent}
 use Rattle.sarif_model.specs.Level.{level_name}
 use Rattle.sarif_model.specs.State.{state_name}
+use Rattle.sarif_counts.specs.Impacts.{is_hit}
 use Rattle.sarif_links.specs.Address.{is_address, is_address_sign}
 use Rattle.sarif_links.proofs.AddressSigns.{signs}
 use Rattle.sarif_shown.specs.declared.escaping.Escaping.TheVariants.{Markdown, Page}
@@ -35,16 +36,16 @@ use Rattle.sarif_shown.proofs.SeenTexts.{IsSeenText, shown_text, place_seen, esc
 use Rattle.sarif_shown.proofs.TextApart.{seen_in_line, same_ends}
 use Rattle.sarif_findings.proofs.ToldFindings.{IsShown}
 use Rattle.sarif_shown.specs.Listed.{listed}
-use Rattle.sarif_reports.specs.MarkdownReport.{most_rows, most_bytes, fitting, in_table}
+use Rattle.sarif_reports.specs.MarkdownReport.{most_rows, fitting, in_table}
 use Rattle.sarif_reports.proofs.AddressRows.{IsAddressed, address_chars, link_addressed, sign_small}
 use Rattle.sarif_reports.proofs.Tabled.{IsTabled, all_tabled, code_seen, line_seen, listed_each}
 use Rattle.std.specs.Prelude.{nat_le}
 use Rattle.sarif_scope.specs.declared.gated.GatedChange.{GatedChange}
 
 -- this many lines end, each with eight bars, after this many earlier ones
-record Cells (count before : ℕ) (text : List ℕ) : Type 0 where
-  ends : count_by (λ b. b == 10) text ≡ count
-  bars : have_bars 8 before text ≡ true
+pub record Cells (count before : ℕ) (text : List ℕ) : Type 0 where
+  pub ends : count_by (λ b. b == 10) text ≡ count
+  pub bars : have_bars 8 before text ≡ true
 
 byte_more : (n k b : ℕ) (text : List ℕ) → (b == 10) ≡ false → (b == 124) ≡ false → Cells n k text → Cells n k (b ∷ text)
 byte_more n k b text line bar rest = record { ends = same_ends n b text line rest.ends; bars = rw (line, bar) rest.bars }
@@ -258,9 +259,9 @@ row_more n link coded f text links is rest =
     let level = quiet_more (n + 1) 2 (level_name f.level) _ (level_quiet f.level) (cell_more (n + 1) 2 _ place) in
     subst (Cells (n + 1) 0)
     (sym
-    (regroup (hit_cell f.hit) (level_name f.level) (place_cell link f) (codes " | ") (rule_cell f.rule f.help f.rule_name) (code_of f.message)
+    (regroup (hit_cell (is_hit f.impact)) (level_name f.level) (place_cell link f) (codes " | ") (rule_cell f.rule f.help f.rule_name) (code_of f.message)
     (code_line coded f.code) (code_of f.tool) (state_name f.state) (codes " |\n") text))
-    (hit_more (n + 1) f.hit _ level)
+    (hit_more (n + 1) (is_hit f.impact) _ level)
 
 all_rows : (link : Option (List ℕ)) (rows : List Row) → AreLinks link → AllByRecursion (λ row. IsTabled row.1) rows
     → Cells (length rows) 0 (flat_map (row_text link) rows)
@@ -288,23 +289,26 @@ fitting_tabled link room (row ∷ rows) h =
     fitting_by (nat_le (length (row_text link row)) room) row (fitting link (room - length (row_text link row)) rows) h.0
     (fitting_tabled link (room - length (row_text link row)) rows h.1)
 
-pub table_tabled : (link : Option (List ℕ)) (fs : List Finding) → AllByRecursion IsTabled fs → AllByRecursion (λ row. IsTabled row.1) (in_table link fs)
-table_tabled link fs h =
+pub table_tabled : (link : Option (List ℕ)) (room : ℕ) (fs : List Finding) → AllByRecursion IsTabled fs → AllByRecursion (λ row. IsTabled row.1) (in_table link room fs)
+table_tabled link room fs h =
     let all = listed_each IsTabled fs h in
-    fitting_tabled link most_bytes (enumerate_from 0 (take most_rows (listed fs)))
+    fitting_tabled link room (enumerate_from 0 (take most_rows (listed fs)))
     (numbered_tabled 0 (take most_rows (listed fs))
     (recursion_from_All IsTabled (take most_rows (listed fs)) (All-take IsTabled most_rows (listed fs) (All-from_recursion IsTabled (listed fs) all))))
 
-table_rows : (link : Option (List ℕ)) (change : Option GatedChange) (reporting : Reporting) (log : Data) → AreLinks link
-    → Cells (length (in_table link (reported_by change reporting log))) 0 (flat_map (row_text link) (in_table link (reported_by change reporting log)))
-table_rows link change reporting log links =
-    let fs = reported_by change reporting log in
-    all_rows link (in_table link fs) links (table_tabled link fs (all_tabled change reporting log))
+pub tabled_rows : (link : Option (List ℕ)) (room : ℕ) (fs : List Finding) → AreLinks link → AllByRecursion IsTabled fs
+    → Cells (length (in_table link room fs)) 0 (flat_map (row_text link) (in_table link room fs))
+tabled_rows link room fs links tabled = all_rows link (in_table link room fs) links (table_tabled link room fs tabled)
 
-pub rows_barred : (link : Option (List ℕ)) (change : Option GatedChange) (reporting : Reporting) (log : Data) → AreLinks link
-    → have_bars 8 0 (flat_map (row_text link) (in_table link (reported_by change reporting log))) ≡ true
-rows_barred link change reporting log links = (table_rows link change reporting log links).bars
+table_rows : (link : Option (List ℕ)) (room : ℕ) (change : Option GatedChange) (reporting : Reporting) (log : Data) → AreLinks link
+    → Cells (length (in_table link room (reported_by change reporting log))) 0 (flat_map (row_text link) (in_table link room (reported_by change reporting log)))
+table_rows link room change reporting log links =
+    tabled_rows link room (reported_by change reporting log) links (all_tabled change reporting log)
 
-pub rows_end : (link : Option (List ℕ)) (change : Option GatedChange) (reporting : Reporting) (log : Data) → AreLinks link
-    → count_by (λ b. b == 10) (flat_map (row_text link) (in_table link (reported_by change reporting log))) ≡ length (in_table link (reported_by change reporting log))
-rows_end link change reporting log links = (table_rows link change reporting log links).ends
+pub rows_barred : (link : Option (List ℕ)) (room : ℕ) (change : Option GatedChange) (reporting : Reporting) (log : Data) → AreLinks link
+    → have_bars 8 0 (flat_map (row_text link) (in_table link room (reported_by change reporting log))) ≡ true
+rows_barred link room change reporting log links = (table_rows link room change reporting log links).bars
+
+pub rows_end : (link : Option (List ℕ)) (room : ℕ) (change : Option GatedChange) (reporting : Reporting) (log : Data) → AreLinks link
+    → count_by (λ b. b == 10) (flat_map (row_text link) (in_table link room (reported_by change reporting log))) ≡ length (in_table link room (reported_by change reporting log))
+rows_end link room change reporting log links = (table_rows link room change reporting log links).ends

@@ -18,6 +18,7 @@ use Rattle.sarif_model.specs.declared.kinds.State.TheVariants.{New, Unchanged, U
 use Rattle.sarif_model.specs.Level.{level_name}
 use Rattle.sarif_model.specs.State.{state_name}
 use Rattle.sarif_model.specs.Run.{runs_of}
+use Rattle.sarif_counts.specs.Impacts.{is_hit}
 use Rattle.sarif_findings.specs.declared.finding.Finding.{Finding}
 use Rattle.sarif_findings.specs.declared.reporting.Reporting.{Reporting}
 use Rattle.sarif_findings.specs.Finding.{spot_text, place, place_path, numbered, begins_with_colon}
@@ -36,7 +37,7 @@ use Rattle.sarif_findings.specs.declared.code.Code.{Code}
 use Rattle.sarif_findings.specs.CodeLaws.{IsSeenLine}
 use Rattle.sarif_findings.specs.CodeRows.{one_line}
 use Rattle.sarif_reports.specs.MarkdownLaws.{AreLinks}
-use Rattle.sarif_reports.specs.MarkdownReport.{Row, anchor, code_line, code_of, fitting, hit_cell, in_table, is_coded, left_out, linked, message_cell, most_bytes, most_rows, place_cell, place_cells, result_row, row_text, rule_cell, rule_cells, title_of, tool_cells}
+use Rattle.sarif_reports.specs.MarkdownReport.{Row, anchor, code_line, code_of, fitting, hit_cell, in_table, is_coded, left_out, linked, message_cell, most_bytes, most_rows, place_cell, place_cells, result_row, room_for, row_text, rule_cell, rule_cells, title_of, tool_cells}
 use Rattle.sarif_reports.proofs.AddressRows.{IsAddressed, address_chars, link_addressed, weight, weight_few}
 use Rattle.sarif_reports.proofs.Tabled.{IsTabled, all_tabled, code_seen, line_seen, listed_each}
 use Rattle.sarif_shown.proofs.ListedMore.{counted_listed, length_listed}
@@ -63,8 +64,8 @@ module _ (link : Option (List ℕ)) where
       rows_by (nat_le (length (row_text link row)) room) row (fitting link (room - length (row_text link row)) rows) room refl
       (rows_fit (room - length (row_text link row)) rows)
 
-pub table_fits : (link : Option (List ℕ)) (fs : List Finding) → length (flat_map (row_text link) (in_table link fs)) ≤ most_bytes
-table_fits link fs = rows_fit link most_bytes (enumerate_from 0 (take most_rows (listed fs)))
+pub table_fits : (link : Option (List ℕ)) (room : ℕ) (fs : List Finding) → length (flat_map (row_text link) (in_table link room fs)) ≤ room
+table_fits link room fs = rows_fit link room (enumerate_from 0 (take most_rows (listed fs)))
 
 -- ---- each listed result has a row or is left out
 
@@ -93,32 +94,32 @@ pub unnumbered : (n : ℕ) (fs : List Finding) → results_in (enumerate_from n 
 unnumbered n [] = refl
 unnumbered n (f ∷ fs) = ap (λ gs. f ∷ gs) (unnumbered (n + 1) fs)
 
-table_parts : (link : Option (List ℕ)) (fs : List Finding) → results_in (in_table link fs) ++ left_out link fs ≡ listed fs
-table_parts link fs =
+table_parts : (link : Option (List ℕ)) (room : ℕ) (fs : List Finding) → results_in (in_table link room fs) ++ left_out link room fs ≡ listed fs
+table_parts link room fs =
     let all : List Finding = listed fs in
     let first : List Finding = take most_rows all in
     let rest : List Finding = drop most_rows all in
     let numbered : List Row = enumerate_from 0 first in
-    let rows : List Row = fitting link most_bytes numbered in
+    let rows : List Row = fitting link room numbered in
     let whole : first ++ rest ≡ all = take-append-drop most_rows all in
-    let few : length rows ≤ length first = omega (arith, fitting_few link most_bytes numbered, length-enumerate_from 0 first) in
+    let few : length rows ≤ length first = omega (arith, fitting_few link room numbered, length-enumerate_from 0 first) in
     let split : results_in rows ++ drop (length rows) first ≡ first =
     ap (λ gs. results_in rows ++ drop (length rows) gs) (sym (unnumbered 0 first))
     ∙ ap (λ gs. results_in rows ++ gs) (drop-map (λ (row : Row). row.1) (length rows) numbered)
     ∙ sym (map-append (λ (row : Row). row.1) rows (drop (length rows) numbered))
-    ∙ ap results_in (fitting_parts link most_bytes numbered) ∙ unnumbered 0 first in
+    ∙ ap results_in (fitting_parts link room numbered) ∙ unnumbered 0 first in
     ap (λ gs. results_in rows ++ drop (length rows) gs) (sym whole)
     ∙ ap (λ gs. results_in rows ++ gs) (drop-append-le (length rows) first rest few)
     ∙ sym (append_assoc (results_in rows) (drop (length rows) first) rest)
     ∙ ap (λ gs. gs ++ rest) split ∙ whole
 
-pub results_parted : (link : Option (List ℕ)) (fs : List Finding) → length (in_table link fs) + length (left_out link fs) ≡ length fs
-results_parted link fs =
-    ap (λ n. n + length (left_out link fs)) (sym (length-map (in_table link fs) (λ (row : Row). row.1)))
-    ∙ sym (length-append (results_in (in_table link fs)) (left_out link fs)) ∙ ap length (table_parts link fs) ∙ length_listed fs
+pub results_parted : (link : Option (List ℕ)) (room : ℕ) (fs : List Finding) → length (in_table link room fs) + length (left_out link room fs) ≡ length fs
+results_parted link room fs =
+    ap (λ n. n + length (left_out link room fs)) (sym (length-map (in_table link room fs) (λ (row : Row). row.1)))
+    ∙ sym (length-append (results_in (in_table link room fs)) (left_out link room fs)) ∙ ap length (table_parts link room fs) ∙ length_listed fs
 
 abbrev pub hits_in : List Finding → ℕ
-hits_in fs = count_by (λ f. f.hit) fs
+hits_in fs = count_by (λ f. is_hit f.impact) fs
 
 cond_few : (b : Bool) → cond {A = ℕ} b 1 0 ≤ 1
 cond_few true = omega arith
@@ -127,25 +128,25 @@ cond_few false = omega arith
 pub hits_few : (fs : List Finding) → hits_in fs ≤ length fs
 hits_few [] = omega arith
 hits_few (f ∷ fs) =
-    let first = sum_by-cons (λ g. cond g.hit 1 0) f fs in
-    let one = cond_few f.hit in
+    let first = sum_by-cons (λ g. cond (is_hit g.impact) 1 0) f fs in
+    let one = cond_few (is_hit f.impact) in
     let rest = hits_few fs in
     omega (arith, first, one, rest)
 
-rows_hits : (rows : List Row) → count_by (λ row. row.1.hit) rows ≡ hits_in (results_in rows)
+rows_hits : (rows : List Row) → count_by (λ row. is_hit row.1.impact) rows ≡ hits_in (results_in rows)
 rows_hits [] = refl
 rows_hits (row ∷ rows) =
-    sum_by-cons (λ (one : Row). cond one.1.hit 1 0) row rows ∙ ap (λ n. cond row.1.hit 1 0 + n) (rows_hits rows)
-    ∙ sym (sum_by-cons (λ (g : Finding). cond g.hit 1 0) row.1 (results_in rows))
+    sum_by-cons (λ (one : Row). cond (is_hit one.1.impact) 1 0) row rows ∙ ap (λ n. cond (is_hit row.1.impact) 1 0 + n) (rows_hits rows)
+    ∙ sym (sum_by-cons (λ (g : Finding). cond (is_hit g.impact) 1 0) row.1 (results_in rows))
 
-pub hits_parted : (link : Option (List ℕ)) (change : Option GatedChange) (reporting : Reporting) (log : Data)
-    → count_by (λ row. row.1.hit) (in_table link (reported_by change reporting log)) + hits_in (left_out link (reported_by change reporting log))
+pub hits_parted : (link : Option (List ℕ)) (room : ℕ) (change : Option GatedChange) (reporting : Reporting) (log : Data)
+    → count_by (λ row. is_hit row.1.impact) (in_table link room (reported_by change reporting log)) + hits_in (left_out link room (reported_by change reporting log))
     ≡ hits_by change reporting.policy (runs_of log)
-hits_parted link change reporting log =
+hits_parted link room change reporting log =
     let fs : List Finding = reported_by change reporting log in
-    ap (λ n. n + hits_in (left_out link fs)) (rows_hits (in_table link fs))
-    ∙ sym (sum_by-append (λ g. cond g.hit 1 0) (results_in (in_table link fs)) (left_out link fs)) ∙ ap hits_in (table_parts link fs)
-    ∙ counted_listed (λ f. f.hit) fs ∙ hits_inside change reporting log
+    ap (λ n. n + hits_in (left_out link room fs)) (rows_hits (in_table link room fs))
+    ∙ sym (sum_by-append (λ g. cond (is_hit g.impact) 1 0) (results_in (in_table link room fs)) (left_out link room fs)) ∙ ap hits_in (table_parts link room fs)
+    ∙ counted_listed (λ f. is_hit f.impact) fs ∙ hits_inside change reporting log
 
 -- ---- one row fits
 
@@ -209,7 +210,7 @@ char_by false c e =
     let four = (len_utf8_bounds c).1 in
     omega (arith, bytes, four)
 
-chars_few : (cs : List ℕ) → length (flat_map (escaped_char Markdown) cs) ≤ 6 * length cs
+pub chars_few : (cs : List ℕ) → length (flat_map (escaped_char Markdown) cs) ≤ 6 * length cs
 chars_few [] = omega arith
 chars_few (c ∷ cs) =
     let one = char_by (is_mark c) c refl in
@@ -294,11 +295,11 @@ place_by (Some address) text h = anchor_short 17012 address text h.signs h.few
 place_few : (link : Option (List ℕ)) (f : Finding) → AreLinks link → IsTabled f → length (place_cells link f) ≤ 23340
 place_few link f links is =
     let told = is.told in
-    let hit = hit_few f.hit in
+    let hit = hit_few (is_hit f.impact) in
     let level = level_few f.level in
     let code = code_few 1045 (spot_text f) (place_short f.path f.line f.column told.path told.line told.column) in
     let cell = place_by (place_link link f) (spot_text f) (link_addressed link f links told.path is.line) in
-    let a = length-append (hit_cell f.hit) (level_name f.level ++ (codes " | " ++ (place_cell link f ++ codes " | "))) in
+    let a = length-append (hit_cell (is_hit f.impact)) (level_name f.level ++ (codes " | " ++ (place_cell link f ++ codes " | "))) in
     let b = length-append (level_name f.level) (codes " | " ++ (place_cell link f ++ codes " | ")) in
     let c = length-append (place_cell link f) (codes " | ") in
     omega (arith, hit, level, code, cell, a, b, c)
@@ -364,7 +365,7 @@ row_few link coded f links is =
     let b = length-append (rule_cells coded f) (tool_cells f) in
     omega (arith, place, rule, tool, a, b)
 
-rows_short : (link : Option (List ℕ)) (coded : Bool) (fs : List Finding) → AreLinks link → AllByRecursion IsTabled fs
+pub rows_short : (link : Option (List ℕ)) (coded : Bool) (fs : List Finding) → AreLinks link → AllByRecursion IsTabled fs
     → AllByRecursion (λ f. length (result_row link coded f) ≤ 48000) fs
 rows_short link coded [] links h = tt
 rows_short link coded (f ∷ fs) links h = (row_few link coded f links h.0, rows_short link coded fs links h.1)
@@ -398,7 +399,7 @@ take_some n [] some = some
 take_some n (f ∷ fs) some = omega arith
 
 pub some_row : (link : Option (List ℕ)) (change : Option GatedChange) (reporting : Reporting) (log : Data) → AreLinks link → 0 < length (reported_by change reporting log)
-    → 0 < length (in_table link (reported_by change reporting log))
+    → 0 < length (in_table link (room_for None) (reported_by change reporting log))
 some_row link change reporting log links some =
     let fs : List Finding = reported_by change reporting log in
     let count = length_listed fs in

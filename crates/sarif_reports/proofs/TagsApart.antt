@@ -10,6 +10,7 @@ use Rattle.sarif_model.specs.declared.kinds.State.{State}
 use Rattle.sarif_model.specs.declared.kinds.State.TheVariants.{New, Unchanged, Updated, Absent}
 use Rattle.sarif_model.specs.Level.{level_name}
 use Rattle.sarif_model.specs.State.{state_name}
+use Rattle.sarif_counts.specs.Impacts.{is_hit}
 use Rattle.sarif_findings.specs.declared.code.Code.{Code}
 use Rattle.sarif_findings.specs.declared.finding.Finding.{Finding}
 use Rattle.sarif_findings.specs.CodeRows.{one_line}
@@ -295,7 +296,7 @@ line_reads true (Some code) = then_moves break_reads (code_reads (one_line code)
 
 place_reads : (link : Option (List ℕ)) (f : Finding) → Reads (place_cells link f) (linked_tags (place_link link f) None (spot_text f) ++ [])
 place_reads link f =
-    then_moves (hit_reads f.hit) (then_moves (quiet (level_name f.level) (level_quiet f.level))
+    then_moves (hit_reads (is_hit f.impact)) (then_moves (quiet (level_name f.level) (level_quiet f.level))
     (then_moves bar_reads (then_moves (linked_reads (place_link link f) None (spot_text f)) bar_reads)))
 
 said_reads : (coded : Bool) (f : Finding)

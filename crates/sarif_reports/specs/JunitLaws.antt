@@ -1,10 +1,8 @@
 -- Properties of the report in JUnit XML, for any strings of a log.
-use Rattle.std.specs.Prelude.{◌≡◌, ℕ, ◌+◌, Bool, true, false, ◌||◌, ◌==◌, nat_eq, List, [], ◌∷◌, ◌++◌, Option, encode_utf8_all, if◌then◌else◌}
+use Rattle.std.specs.Prelude.{◌≡◌, ℕ, ◌+◌, Bool, true, ◌||◌, ◌==◌, nat_eq, List, [], ◌∷◌, ◌++◌, Option, None, encode_utf8_all, if◌then◌else◌}
 use Rattle.std.specs.List.{list_all, starts_with}
 use Rattle.serde_json.specs.Data.{Data}
 use Rattle.sarif_model.specs.Run.{runs_of}
-use Rattle.sarif_counts.specs.declared.gate_verdict.Verdict.{Verdict}
-use Rattle.sarif_counts.specs.declared.gate_verdict.Verdict.TheVariants.{Pass, Fail}
 use Rattle.sarif_scope.specs.Counted.{verdict_by}
 use Rattle.sarif_scope.specs.declared.gated.GatedChange.{GatedChange}
 use Rattle.sarif_findings.specs.declared.finding.Finding.{Finding}
@@ -13,6 +11,7 @@ use Rattle.sarif_shown.specs.ReportedInside.{reported_by}
 use Rattle.sarif_findings.specs.Shown.{is_between}
 use Rattle.sarif_reports.specs.JunitReport.{case_name, junit_document}
 use Rattle.sarif_shown.specs.Listed.{listed}
+use Rattle.sarif_shown.specs.Stopping.{stopping_by}
 
 -- how often a string occurs in another
 abbrev pub occurrences : List ℕ → List ℕ → ℕ
@@ -27,12 +26,8 @@ cases_of n = if n == 0 then 1 else n
 -- the report of a merged log, with a change or without one
 abbrev pub document_of : Option GatedChange → Reporting → Data → List ℕ
 document_of change reporting log =
-    junit_document (verdict_by change reporting.policy (runs_of log))
+    junit_document (stopping_by None (verdict_by change reporting.policy (runs_of log)))
     (listed (reported_by change reporting log))
-
-abbrev pub fails : Verdict → Bool
-fails Fail = true
-fails Pass = false
 
 -- the names of these results of a suite, which follow the earlier ones
 abbrev pub names_after : List Finding → List Finding → List (List ℕ)

@@ -1,18 +1,19 @@
--- The report for services that read JUnit XML: a test case per result, in a test suite per tool. There is a failed
--- test case exactly if the gate fails.
-use Rattle.std.specs.Prelude.{ℕ, ◌+◌, Bool, not, ◌||◌, ◌==◌, nat_eq, nat_lt, bytes_eq, List, [], ◌∷◌, ◌++◌, length, Option, Some, None, codes, flat_map, filter, unwrap_or, if◌then◌else◌}
+-- The report for services that read JUnit XML: a test case per result, in a test suite per tool. A hit that stops the
+-- change is a test case that fails, so there is one exactly if the gate fails.
+use Rattle.std.specs.Prelude.{ℕ, ◌+◌, Bool, true, false, not, ◌||◌, ◌==◌, nat_eq, nat_lt, bytes_eq, List, [], ◌∷◌, ◌++◌, length, Option, Some, None, codes, flat_map, filter, unwrap_or, if◌then◌else◌}
 use Rattle.std.specs.Fmt.{decimal}
 use Rattle.std.specs.List.{count_by, ends_with}
 use Rattle.sarif_model.specs.Level.{level_name}
-use Rattle.sarif_counts.specs.declared.gate_verdict.Verdict.{Verdict}
-use Rattle.sarif_counts.specs.declared.gate_verdict.Verdict.TheVariants.{Pass, Fail}
+use Rattle.sarif_shown.specs.declared.stopping.Stopping.{Stopping}
+use Rattle.sarif_counts.specs.Impacts.{is_hit}
 use Rattle.sarif_findings.specs.declared.finding.Finding.{Finding}
 use Rattle.sarif_findings.specs.Finding.{spot_text}
 use Rattle.sarif_shown.specs.declared.escaping.Escaping.TheVariants.{Page}
 use Rattle.sarif_shown.specs.Escaped.{escaped}
-use Rattle.sarif_scope.specs.Told.{verdict_told}
 use Rattle.sarif_shown.specs.Facts.{Facts}
 use Rattle.sarif_shown.specs.Listed.{listed}
+use Rattle.sarif_shown.specs.Ruled.{gate_stopping}
+use Rattle.sarif_shown.specs.Stopping.{is_let_pass, stops}
 use Rattle.sarif_shown.specs.TextReport.{result_line}
 
 -- ---- names
@@ -76,7 +77,7 @@ shown_line finding = attribute (codes "\">") (result_line finding)
 unfoldable pub failure_end : List ℕ
 failure_end = codes "</failure></testcase>\n"
 
--- a hit where the gate fails
+-- a hit that stops the change
 unfoldable pub failure : Finding → List ℕ
 failure finding =
     attribute (codes "><failure type=\"") (level_name finding.level)
@@ -86,27 +87,29 @@ failure finding =
 unfoldable pub skipped_end : List ℕ
 skipped_end = codes "\"/></testcase>\n"
 
--- a hit where the gate passes: the policy permits it
+-- another hit: the policy permits it
 unfoldable pub skipped : Finding → List ℕ
 skipped finding =
     attribute (codes "><skipped message=\"") finding.message ++ skipped_end
 
-abbrev pub hit_end : Verdict → Finding → List ℕ
-hit_end Fail finding = failure finding
-hit_end Pass finding = skipped finding
+-- how a test case ends, by whether its result stops the change, and whether it is a hit: a result that isn't a hit passes
+abbrev pub end_by : Bool → Bool → Finding → List ℕ
+end_by true hit finding = failure finding
+end_by false true finding = skipped finding
+end_by false false finding = codes "/>\n"
 
--- a result that isn't a hit is a test case that passes
-abbrev pub case_end : Verdict → Finding → List ℕ
-case_end verdict finding = if finding.hit then hit_end verdict finding else codes "/>\n"
+abbrev pub case_end : Stopping → Finding → List ℕ
+case_end stopping finding =
+    end_by (stops stopping finding.impact) (is_hit finding.impact) finding
 
-abbrev pub test_case : Verdict → List ℕ → Finding → List ℕ
-test_case verdict name finding = case_begin name finding ++ case_end verdict finding
+abbrev pub test_case : Stopping → List ℕ → Finding → List ℕ
+test_case stopping name finding = case_begin name finding ++ case_end stopping finding
 
 -- the test cases of these results of a suite, which follow the earlier ones
-abbrev pub cases_after : Verdict → List Finding → List Finding → List ℕ
-cases_after verdict earlier [] = []
-cases_after verdict earlier (f ∷ fs) =
-    test_case verdict (case_name earlier f) f ++ cases_after verdict (earlier ++ f ∷ []) fs
+abbrev pub cases_after : Stopping → List Finding → List Finding → List ℕ
+cases_after stopping earlier [] = []
+cases_after stopping earlier (f ∷ fs) =
+    test_case stopping (case_name earlier f) f ++ cases_after stopping (earlier ++ f ∷ []) fs
 
 -- ---- suites
 
@@ -119,53 +122,48 @@ tools_of (f ∷ fs) = f.tool ∷ filter (λ tool. not (bytes_eq f.tool tool)) (t
 abbrev pub results_of : List Finding → List ℕ → List Finding
 results_of findings tool = filter (λ f. bytes_eq tool f.tool) findings
 
-abbrev pub hits_in : List Finding → ℕ
-hits_in findings = count_by (λ f. f.hit) findings
+abbrev pub failures_in : Stopping → List Finding → ℕ
+failures_in stopping findings = count_by (λ f. stops stopping f.impact) findings
 
-abbrev pub failures_in : Verdict → List Finding → ℕ
-failures_in Fail findings = hits_in findings
-failures_in Pass findings = 0
-
-abbrev pub skipped_in : Verdict → List Finding → ℕ
-skipped_in Fail findings = 0
-skipped_in Pass findings = hits_in findings
+abbrev pub skipped_in : Stopping → List Finding → ℕ
+skipped_in stopping findings = count_by (λ f. is_let_pass stopping f.impact) findings
 
 -- a number after the beginning of an attribute
 unfoldable pub counted : List ℕ → ℕ → List ℕ
 counted begin n = begin ++ decimal n
 
 -- " tests="N" failures="F
-unfoldable pub test_counts : Verdict → List Finding → List ℕ
-test_counts verdict findings =
+unfoldable pub test_counts : Stopping → List Finding → List ℕ
+test_counts stopping findings =
     counted (codes "\" tests=\"") (length findings)
-    ++ counted (codes "\" failures=\"") (failures_in verdict findings)
+    ++ counted (codes "\" failures=\"") (failures_in stopping findings)
 
 -- <testsuite name="TOOL" tests="N" failures="F" skipped="S">
-unfoldable pub suite_begin : Verdict → List ℕ → List Finding → List ℕ
-suite_begin verdict tool findings =
-    attribute (codes "<testsuite name=\"") tool ++ (test_counts verdict findings
-    ++ (counted (codes "\" skipped=\"") (skipped_in verdict findings) ++ codes "\">\n"))
+unfoldable pub suite_begin : Stopping → List ℕ → List Finding → List ℕ
+suite_begin stopping tool findings =
+    attribute (codes "<testsuite name=\"") tool ++ (test_counts stopping findings
+    ++ (counted (codes "\" skipped=\"") (skipped_in stopping findings) ++ codes "\">\n"))
 
 unfoldable pub suite_end : List ℕ
 suite_end = codes "</testsuite>\n"
 
 -- the suite of a tool with these results
-abbrev pub suite_of : Verdict → List ℕ → List Finding → List ℕ
-suite_of verdict tool findings =
-    suite_begin verdict tool findings ++ (cases_after verdict [] findings ++ suite_end)
+abbrev pub suite_of : Stopping → List ℕ → List Finding → List ℕ
+suite_of stopping tool findings =
+    suite_begin stopping tool findings ++ (cases_after stopping [] findings ++ suite_end)
 
 -- the suites of these results
-abbrev pub suites_in : Verdict → List Finding → List ℕ
-suites_in verdict findings =
-    flat_map (λ tool. suite_of verdict tool (results_of findings tool)) (tools_of findings)
+abbrev pub suites_in : Stopping → List Finding → List ℕ
+suites_in stopping findings =
+    flat_map (λ tool. suite_of stopping tool (results_of findings tool)) (tools_of findings)
 
 unfoldable pub document_head : List ℕ
 document_head =
     codes "<?xml version=\"1.0\" encoding=\"UTF-8\"?>\n<testsuites name=\"sarif_gate"
 
-unfoldable pub document_begin : Verdict → List Finding → List ℕ
-document_begin verdict findings =
-    document_head ++ (test_counts verdict findings ++ codes "\">\n")
+unfoldable pub document_begin : Stopping → List Finding → List ℕ
+document_begin stopping findings =
+    document_head ++ (test_counts stopping findings ++ codes "\">\n")
 
 unfoldable pub document_end : List ℕ
 document_end = codes "</testsuites>\n"
@@ -180,11 +178,10 @@ passed_document =
     ++ codes "</testsuite>\n</testsuites>\n")))
 
 -- the document of these results
-abbrev pub junit_document : Verdict → List Finding → List ℕ
-junit_document verdict findings =
+abbrev pub junit_document : Stopping → List Finding → List ℕ
+junit_document stopping findings =
     if length findings == 0 then passed_document
-    else document_begin verdict findings ++ (suites_in verdict findings ++ document_end)
+    else document_begin stopping findings ++ (suites_in stopping findings ++ document_end)
 
 abbrev pub junit_of : Facts → List ℕ
-junit_of facts =
-    junit_document (verdict_told facts.change facts.count facts.policy) (listed facts.findings)
+junit_of facts = junit_document (gate_stopping facts) (listed facts.findings)

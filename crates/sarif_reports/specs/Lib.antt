@@ -7,4 +7,5 @@ pub mod LaterOutputs
 pub mod MarkdownLaws
 pub mod MarkdownReport
 pub mod MarkdownTags
+pub mod PolicyReports
 pub mod Report

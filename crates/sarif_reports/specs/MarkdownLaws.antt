@@ -1,8 +1,12 @@
 -- Properties of the table of results in Markdown, for any strings of a log.
-use Rattle.std.specs.Prelude.{◌≡◌, ℕ, ◌+◌, ◌<◌, ◌^◌, length, Bool, true, ◌&&◌, ◌==◌, List, [], ◌∷◌, Option, Some, None, IfSome, if◌then◌else◌}
+use Rattle.std.specs.Prelude.{◌≡◌, ℕ, ◌+◌, ◌<◌, ◌≤◌, ◌^◌, length, Bool, true, ◌&&◌, ◌==◌, List, [], ◌∷◌, Option, Some, None, IfSome, chars, if◌then◌else◌}
 use Rattle.sarif_links.specs.Template.{is_template}
 use Rattle.sarif_model.specs.declared.kinds.Level.{Level}
 use Rattle.sarif_model.specs.declared.kinds.State.{State}
+use Rattle.std.specs.List.{AllByRecursion}
+use Rattle.sarif_conditions.specs.declared.facts.ConditionFacts.{ConditionFacts}
+use Rattle.sarif_conditions.specs.declared.facts.PolicyFacts.{PolicyFacts}
+use Rattle.sarif_reports.specs.MarkdownReport.{condition_rows, room_for}
 use Rattle.sarif_scope.specs.Told.{outside_told}
 use Rattle.sarif_scope.specs.declared.facts.ChangeFacts.{ChangeFacts}
 use Rattle.sarif_shown.specs.Facts.{Facts}
@@ -18,7 +22,15 @@ have_bars count before (b ∷ bs) =
 abbrev pub AreLinks : Option (List ℕ) → Type 0
 AreLinks link = IfSome link (λ template. is_template template ≡ true)
 
--- numbers as the program holds them: counts of 32 bits, and a list that fits into memory
+-- the numbers of a policy as the program holds them
+pub record AreSmallOfPolicy (ruling : PolicyFacts) : Type 0 where
+  pub hits : ruling.hits < 2 ^ 32
+  pub reported : ruling.reported < 2 ^ 32
+  pub filters : ruling.unused_filters < 2 ^ 32
+  pub unchecked : ruling.unchecked < 2 ^ 32
+  pub conditions : length ruling.conditions < 2 ^ 64
+
+-- numbers as the program holds them: counts of 32 bits, and lists that fit into memory
 pub record AreSmall (facts : Facts) : Type 0 where
   pub counts : (s : State) (l : Level) (b : Bool) → facts.count s l b < 2 ^ 32
   pub max : facts.policy.max < 2 ^ 32
@@ -26,8 +38,27 @@ pub record AreSmall (facts : Facts) : Type 0 where
   pub unused : facts.unused < 2 ^ 32
   pub findings : length facts.findings < 2 ^ 64
   pub outside : outside_told facts.change < 2 ^ 32
+  pub ruling : IfSome facts.ruling AreSmallOfPolicy
 
--- the most bytes of a report, which has one more sentence with a change
-abbrev pub most_of : Option ChangeFacts → ℕ
-most_of None = 61000
-most_of (Some change) = 61100
+-- the most bytes of a report, which has one more sentence with a change; with a policy 62,000, unless the rows of its
+-- conditions alone have more than 60,000
+abbrev pub most_with : Option PolicyFacts → Option ChangeFacts → ℕ
+most_with None None = 61000
+most_with None (Some change) = 61100
+most_with (Some ruling) change =
+    room_for (Some ruling) + (length (condition_rows ruling.conditions) + 2000)
+
+abbrev pub most_of : Facts → ℕ
+most_of facts = most_with facts.ruling facts.change
+
+-- conditions as a policy file may have them: at most 100, each with a name of at most 50 characters, and numbers of 32 bits,
+-- but the limit, which a ratchet raises
+pub record IsSmallCondition (c : ConditionFacts) : Type 0 where
+  pub name : length (chars c.name) ≤ 50
+  pub hits : c.hits < 2 ^ 32
+  pub limit : c.limit < 2 ^ 64
+  pub outside : IfSome c.outside (λ n. n < 2 ^ 32)
+
+pub record AreFewConditions (ruling : PolicyFacts) : Type 0 where
+  pub few : length ruling.conditions ≤ 100
+  pub each : AllByRecursion IsSmallCondition ruling.conditions

@@ -1,5 +1,5 @@
--- The report for job summaries and comments on a change: the verdict, the counts, and a table of the first listed
--- results.
+-- The report for job summaries and comments on a change: the verdict, the counts, a table of the conditions of a policy,
+-- and one of the first listed results.
 use Rattle.std.specs.Prelude.{ℕ, ◌-◌, Bool, true, false, ◌==◌, List, [], ◌∷◌, ◌++◌, Option, Some, None, ◌&&◌, length, take, drop, codes, flat_map, nat_le, nat_lt, if◌then◌else◌}
 use Rattle.std.specs.List.{count_by, enumerate_from}
 use Rattle.sarif_model.specs.declared.kinds.Level.{Level}
@@ -9,19 +9,23 @@ use Rattle.sarif_model.specs.Level.{level_name}
 use Rattle.sarif_model.specs.State.{state_name}
 use Rattle.sarif_counts.specs.declared.gate_verdict.Verdict.{Verdict}
 use Rattle.sarif_counts.specs.Hits.{Count}
+use Rattle.sarif_counts.specs.Impacts.{is_hit}
+use Rattle.sarif_conditions.specs.declared.facts.ConditionFacts.{ConditionFacts}
+use Rattle.sarif_conditions.specs.declared.facts.PolicyFacts.{PolicyFacts}
+use Rattle.sarif_shown.specs.ConditionRow.{condition_cells}
 use Rattle.sarif_shown.specs.CountRow.{row_of, numbers_of}
+use Rattle.sarif_shown.specs.declared.noted.Noted.{Noted}
 use Rattle.sarif_findings.specs.declared.finding.Finding.{Finding}
 use Rattle.sarif_shown.specs.declared.escaping.Escaping.TheVariants.{Markdown, Page}
 use Rattle.sarif_findings.specs.declared.code.Code.{Code}
 use Rattle.sarif_findings.specs.CodeRows.{one_line}
 use Rattle.sarif_findings.specs.Finding.{spot_text}
-use Rattle.sarif_scope.specs.Told.{hits_told, outside_told, verdict_told}
 use Rattle.sarif_shown.specs.Linked.{place_link}
 use Rattle.sarif_shown.specs.Escaped.{escaped}
 use Rattle.sarif_shown.specs.Facts.{Facts}
 use Rattle.sarif_shown.specs.Listed.{listed}
-use Rattle.sarif_shown.specs.Sentences.{accept_text, entries_text, gate_text, more_text, outside_text, runs_text, unshown_text}
-use Rattle.sarif_shown.specs.Unshown.{unshown_number}
+use Rattle.sarif_shown.specs.Ruled.{gate_ending, gate_hits, gate_verdict, noted_in, unshown_results}
+use Rattle.sarif_shown.specs.Sentences.{accept_text, entries_text, filters_text, gate_text, more_text, outside_text, runs_text, unchecked_text, unshown_text}
 
 -- ---- strings
 
@@ -30,8 +34,8 @@ abbrev pub code_of : List ℕ → List ℕ
 code_of [] = []
 code_of (b ∷ bs) = codes "<code>" ++ (escaped Markdown (b ∷ bs) ++ codes "</code>")
 
-abbrev pub heading : Verdict → ℕ → ℕ → List ℕ
-heading verdict hits max = codes "## " ++ (gate_text verdict hits max ++ codes "\n\n")
+abbrev pub heading : Verdict → List ℕ → List ℕ
+heading verdict end = codes "## " ++ (gate_text verdict end ++ codes "\n\n")
 
 abbrev pub count_row : State → (Level → Bool → ℕ) → List ℕ
 count_row state numbers = row_of (state_name state) (numbers_of numbers)
@@ -44,7 +48,7 @@ counts_table count =
     ++ (count_row Updated (count Updated)
     ++ count_row Absent (count Absent))))
 
--- ---- runs without results, unused entries, and results outside of a change
+-- ---- what wasn't looked at
 
 -- a line, if there is a number to say something about
 abbrev pub line_if : ℕ → List ℕ → List ℕ
@@ -55,10 +59,30 @@ abbrev pub paragraph : List ℕ → List ℕ
 paragraph [] = []
 paragraph (b ∷ bs) = codes "\n" ++ (b ∷ bs)
 
-abbrev pub notes : ℕ → ℕ → ℕ → List ℕ
-notes without unused outside =
-    line_if without (runs_text without) ++ (line_if unused (entries_text unused)
-    ++ line_if outside (outside_text outside))
+abbrev pub notes : Noted → List ℕ
+notes n =
+    line_if n.without (runs_text n.without) ++ (line_if n.unused (entries_text n.unused)
+    ++ (line_if n.filters (filters_text n.filters) ++ (line_if n.outside (outside_text n.outside)
+    ++ line_if n.unchecked (unchecked_text n.unchecked))))
+
+-- ---- the table of conditions
+
+-- | NAME | VERDICT | HITS | LIMIT | OUTSIDE |
+abbrev pub condition_row : ConditionFacts → List ℕ
+condition_row c =
+    codes "| " ++ (code_of c.name ++ (condition_cells (codes " | ") [] c ++ codes " |\n"))
+
+abbrev pub condition_rows : List ConditionFacts → List ℕ
+condition_rows conditions = flat_map condition_row conditions
+
+abbrev pub conditions_head : List ℕ
+conditions_head =
+    codes "\n| condition | verdict | hits | limit | outside |\n|---|---|--:|--:|--:|\n"
+
+-- the table, if there is a policy
+abbrev pub conditions_table : Option PolicyFacts → List ℕ
+conditions_table None = []
+conditions_table (Some ruling) = conditions_head ++ condition_rows ruling.conditions
 
 -- ---- links
 
@@ -89,7 +113,7 @@ place_cell link finding = linked (place_link link finding) None (spot_text findi
 
 abbrev pub place_cells : Option (List ℕ) → Finding → List ℕ
 place_cells link finding =
-    hit_cell finding.hit ++ (level_name finding.level
+    hit_cell (is_hit finding.impact) ++ (level_name finding.level
     ++ (codes " | " ++ (place_cell link finding ++ codes " | ")))
 
 -- the rule, which links to its page if there is one; no link without a rule
@@ -133,13 +157,18 @@ abbrev pub Row : Type 0
 Row = ℕ × Finding
 
 abbrev pub is_coded : Row → Bool
-is_coded row = nat_lt row.0 most_coded && row.1.hit
+is_coded row = nat_lt row.0 most_coded && is_hit row.1.impact
 
 abbrev pub row_text : Option (List ℕ) → Row → List ℕ
 row_text link row = result_row link (is_coded row) row.1
 
 abbrev pub most_bytes : ℕ
 most_bytes = 60000
+
+-- the bytes that the rows of results may have: with a policy the rows of its conditions count too
+abbrev pub room_for : Option PolicyFacts → ℕ
+room_for None = most_bytes
+room_for (Some ruling) = most_bytes - length (condition_rows ruling.conditions)
 
 -- as many of these, from the first on, as have rows that fit into this many bytes together
 abbrev pub fitting : Option (List ℕ) → ℕ → List Row → List Row
@@ -149,33 +178,38 @@ fitting link room (row ∷ rows) =
     then row ∷ fitting link (room - length (row_text link row)) rows else []
 
 -- as many of these results as have rows in the table, with their indexes
-abbrev pub rows_of : Option (List ℕ) → List Finding → List Row
-rows_of link findings = fitting link most_bytes (enumerate_from 0 (take most_rows findings))
+abbrev pub rows_of : Option (List ℕ) → ℕ → List Finding → List Row
+rows_of link room findings = fitting link room (enumerate_from 0 (take most_rows findings))
 
 -- the results in the table
-abbrev pub in_table : Option (List ℕ) → List Finding → List Row
-in_table link findings = rows_of link (listed findings)
+abbrev pub in_table : Option (List ℕ) → ℕ → List Finding → List Row
+in_table link room findings = rows_of link room (listed findings)
 
 -- the results that have no row
-abbrev pub left_out : Option (List ℕ) → List Finding → List Finding
-left_out link findings = drop (length (in_table link findings)) (listed findings)
+abbrev pub left_out : Option (List ℕ) → ℕ → List Finding → List Finding
+left_out link room findings = drop (length (in_table link room findings)) (listed findings)
 
 abbrev pub more_line : ℕ → ℕ → List ℕ
 more_line n hits = line_if n (more_text n hits)
 
 abbrev pub others_line : List Finding → List ℕ
-others_line others = more_line (length others) (count_by (λ f. f.hit) others)
+others_line others = more_line (length others) (count_by (λ f. is_hit f.impact) others)
 
-abbrev pub table_of : Option (List ℕ) → List Finding → List ℕ
-table_of link findings =
+abbrev pub results_head : List ℕ
+results_head =
     codes
     "\n| hit | level | place | rule | message | tool | state |\n|---|---|---|---|---|---|---|\n"
-    ++ (flat_map (row_text link) (in_table link findings)
-    ++ paragraph (others_line (left_out link findings)))
 
--- nothing where nothing is reported
-abbrev pub results_table : Option (List ℕ) → List Finding → List ℕ
-results_table link findings = if length findings == 0 then [] else table_of link findings
+-- the head of the table, if it has rows
+abbrev pub head_for : ℕ → List ℕ
+head_for rows = if rows == 0 then [] else results_head
+
+-- the table, and the line on the results that have no row
+abbrev pub results_table : Option (List ℕ) → ℕ → List Finding → List ℕ
+results_table link room findings =
+    head_for (length (in_table link room findings))
+    ++ (flat_map (row_text link) (in_table link room findings)
+    ++ paragraph (others_line (left_out link room findings)))
 
 -- the line on reported results that are not shown, if there are any
 unfoldable pub unshown_line : ℕ → List ℕ
@@ -191,10 +225,9 @@ last_lines unshown hits = paragraph (unshown_line unshown) ++ paragraph (accept_
 
 abbrev pub markdown_of : Facts → List ℕ
 markdown_of facts =
-    heading (verdict_told facts.change facts.count facts.policy)
-    (hits_told facts.change facts.count facts.policy) facts.policy.max
+    heading (gate_verdict facts) (gate_ending facts)
     ++ (counts_table facts.count
-    ++ (paragraph (notes facts.without facts.unused (outside_told facts.change))
-    ++ (results_table facts.link facts.findings
-    ++ last_lines (unshown_number facts.change facts.show facts.count facts.policy)
-    (hits_told facts.change facts.count facts.policy))))
+    ++ (paragraph (notes (noted_in facts))
+    ++ (conditions_table facts.ruling
+    ++ (results_table facts.link (room_for facts.ruling) facts.findings
+    ++ last_lines (unshown_results facts) (gate_hits facts)))))

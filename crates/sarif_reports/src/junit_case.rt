@@ -3,10 +3,9 @@ ghost use Rattle.std.specs.Prelude.{◌≡◌, ◌++◌, OnOk, string_bytes};
 ghost use Rattle.sarif_reports.specs.JunitReport as said;
 
 use crate::junit_parts::{failure_end, push_attribute, skipped_end};
-use sarif_counts::Verdict;
 use sarif_findings::Finding;
 use sarif_model::Text;
-use sarif_shown::push_result_line;
+use sarif_shown::{Stopping, push_result_line};
 use std::alloc::{AllocError, Global};
 
 /// Adds the path, if there is one.
@@ -74,7 +73,7 @@ fn push_shown_line(alloc: Global, text: &mut String, finding: &Finding) -> Resul
     Ok(())
 }
 
-/// Adds the end of the test case of a hit where the gate fails.
+/// Adds the end of the test case of a hit that stops the change.
 #[tactic(auto, unfolding(crate::specs::JunitReport::failure))]
 fn push_failure(alloc: Global, text: &mut String, finding: &Finding) -> Result<(), AllocError>
     ensures { OnOk result
@@ -87,7 +86,7 @@ fn push_failure(alloc: Global, text: &mut String, finding: &Finding) -> Result<(
     Ok(())
 }
 
-/// Adds the end of the test case of a hit where the gate passes.
+/// Adds the end of the test case of another hit.
 #[tactic(auto, unfolding(crate::specs::JunitReport::skipped))]
 fn push_skipped(alloc: Global, text: &mut String, finding: &Finding) -> Result<(), AllocError>
     ensures { OnOk result
@@ -107,34 +106,34 @@ fn push_skipped(alloc: Global, text: &mut String, finding: &Finding) -> Result<(
 fn push_end(
     alloc: Global,
     text: &mut String,
-    verdict: Verdict,
+    stopping: Stopping,
     finding: &Finding,
 ) -> Result<(), AllocError>
     ensures { OnOk result
-        (string_bytes text.new ≡ string_bytes text.old ++ said.case_end verdict finding.now) }
+        (string_bytes text.new ≡ string_bytes text.old ++ said.case_end stopping finding.now) }
 {
-    if !finding.hit {
-        text.push_str("/>\n")?;
-        return Ok(());
+    if stopping.stops(finding.impact) {
+        return push_failure(alloc, text, finding);
     }
-    match verdict {
-        Verdict::Fail => push_failure(alloc, text, finding),
-        Verdict::Pass => push_skipped(alloc, text, finding),
+    if finding.impact.is_hit() {
+        return push_skipped(alloc, text, finding);
     }
+    text.push_str("/>\n")?;
+    Ok(())
 }
 
 /// Adds the test case of a result.
 pub(crate) fn push_case(
     alloc: Global,
     text: &mut String,
-    verdict: Verdict,
+    stopping: Stopping,
     name: &str,
     finding: &Finding,
 ) -> Result<(), AllocError>
     ensures { OnOk result (string_bytes text.new
-        ≡ string_bytes text.old ++ said.test_case verdict name.now finding.now) }
+        ≡ string_bytes text.old ++ said.test_case stopping name.now finding.now) }
 {
     push_begin(alloc, text, name, finding)?;
-    push_end(alloc, text, verdict, finding)?;
+    push_end(alloc, text, stopping, finding)?;
     Ok(())
 }

@@ -2,6 +2,7 @@
 ghost use Rattle.std.specs.Prelude.{◌≡◌, ◌+◌, ◌<◌, ◌^◌, ◌++◌, ℕ, List, [], IfOk, OnOk, string_bytes};
 ghost use Rattle.std.specs.Prelude.{bytes_eq, flat_map, length, slice_get, if◌then◌else◌};
 ghost use Rattle.sarif_shown.specs.Facts.{facts_of};
+ghost use Rattle.sarif_shown.specs.Stopping.{is_let_pass as hit_let_pass};
 ghost use Rattle.sarif_reports.specs.JunitReport as said;
 ghost use Rattle.sarif_reports.specs.Internal.Suites.{counted, entry_text, pointed, text_at};
 
@@ -12,48 +13,47 @@ use crate::junit_parts::{
 };
 use crate::junit_suites::{Suites, suites_of};
 use indexmap::IndexMap;
-use sarif_counts::Verdict;
+use sarif_counts::Impact;
 use sarif_findings::Finding;
-use sarif_scope::verdict_told;
-use sarif_shown::{ReportInput, list_findings};
+use sarif_shown::{ReportInput, Stopping, gate_stopping, list_findings};
 use std::alloc::{AllocError, Global};
 use std::hash::RandomState;
 
-fn one_if_hit(finding: &Finding) -> usize
-    ensures { result ≡ (if finding.now.hit then 1 else 0) }
+fn one_if(test: bool) -> usize
+    ensures { result ≡ (if test then 1 else 0) }
 {
-    if finding.hit { 1 } else { 0 }
-}
-
-/// How many of these results are hits.
-fn hits_in(findings: &[&Finding]) -> usize
-    ensures { result ≡ said.hits_in (pointed findings.now) }
-{
-    let mut hits: usize = 0;
-    for finding in findings {
-        hits += one_if_hit(finding);
-    }
-    hits
+    if test { 1 } else { 0 }
 }
 
 /// How many of these results are test cases that fail.
-fn failures_in(verdict: Verdict, findings: &[&Finding]) -> usize
-    ensures { result ≡ said.failures_in verdict (pointed findings.now) }
+fn failures_in(stopping: Stopping, findings: &[&Finding]) -> usize
+    ensures { result ≡ said.failures_in stopping (pointed findings.now) }
 {
-    match verdict {
-        Verdict::Fail => hits_in(findings),
-        Verdict::Pass => 0,
+    let mut failures: usize = 0;
+    for finding in findings {
+        let fails = stopping.stops(finding.impact);
+        failures += one_if(fails);
     }
+    failures
+}
+
+/// Whether a result is a hit that doesn't stop the change.
+fn is_let_pass(stopping: Stopping, impact: Impact) -> bool
+    ensures { result ≡ hit_let_pass stopping impact }
+{
+    impact.is_hit() && !stopping.stops(impact)
 }
 
 /// How many of these results are test cases that are skipped.
-fn skipped_in(verdict: Verdict, findings: &[&Finding]) -> usize
-    ensures { result ≡ said.skipped_in verdict (pointed findings.now) }
+fn skipped_in(stopping: Stopping, findings: &[&Finding]) -> usize
+    ensures { result ≡ said.skipped_in stopping (pointed findings.now) }
 {
-    match verdict {
-        Verdict::Fail => 0,
-        Verdict::Pass => hits_in(findings),
+    let mut skipped: usize = 0;
+    for finding in findings {
+        let skips = is_let_pass(stopping, finding.impact);
+        skipped += one_if(skips);
     }
+    skipped
 }
 
 /// How many test cases there are for these results.
@@ -69,18 +69,18 @@ fn tests_in(findings: &[&Finding]) -> usize
 fn push_counts(
     alloc: Global,
     text: &mut String,
-    verdict: Verdict,
+    stopping: Stopping,
     findings: &[&Finding],
 ) -> Result<(), AllocError>
     ensures { OnOk result (string_bytes text.new
-        ≡ string_bytes text.old ++ said.test_counts verdict (pointed findings.now)) }
+        ≡ string_bytes text.old ++ said.test_counts stopping (pointed findings.now)) }
 {
     push_counted(alloc, text, "\" tests=\"", tests_in(findings))?;
     push_counted(
         alloc,
         text,
         "\" failures=\"",
-        failures_in(verdict, findings),
+        failures_in(stopping, findings),
     )?;
     Ok(())
 }
@@ -90,16 +90,16 @@ fn push_counts(
 fn push_suite_begin(
     alloc: Global,
     text: &mut String,
-    verdict: Verdict,
+    stopping: Stopping,
     tool: &str,
     findings: &[&Finding],
 ) -> Result<(), AllocError>
     ensures { OnOk result (string_bytes text.new
-        ≡ string_bytes text.old ++ said.suite_begin verdict tool.now (pointed findings.now)) }
+        ≡ string_bytes text.old ++ said.suite_begin stopping tool.now (pointed findings.now)) }
 {
     push_attribute(alloc, text, "<testsuite name=\"", tool)?;
-    push_counts(alloc, text, verdict, findings)?;
-    push_counted(alloc, text, "\" skipped=\"", skipped_in(verdict, findings))?;
+    push_counts(alloc, text, stopping, findings)?;
+    push_counted(alloc, text, "\" skipped=\"", skipped_in(stopping, findings))?;
     text.push_str("\">\n")?;
     Ok(())
 }
@@ -109,12 +109,12 @@ fn push_next_case(
     alloc: Global,
     text: &mut String,
     counts: &mut IndexMap<String, u64, RandomState>,
-    verdict: Verdict,
+    stopping: Stopping,
     finding: &Finding,
 ) -> Result<(), AllocError>
     requires room { counted counts.old (said.plain_name finding.now) < 2 ^ 63 }
     ensures written { OnOk result (string_bytes text.new ≡ string_bytes text.old
-        ++ said.test_case verdict (said.nth_name (said.plain_name finding.now)
+        ++ said.test_case stopping (said.nth_name (said.plain_name finding.now)
         (counted counts.old (said.plain_name finding.now) + 1)) finding.now) }
     ensures counted { OnOk result ((name : List ℕ) → counted counts.new name
         ≡ counted counts.old name
@@ -123,7 +123,7 @@ fn push_next_case(
     let mut name = plain_name(alloc, finding)?;
     let number = count(alloc, counts, name.as_str())?;
     number_name(alloc, &mut name, number)?;
-    push_case(alloc, text, verdict, name.as_str(), finding)?;
+    push_case(alloc, text, stopping, name.as_str(), finding)?;
     Ok(())
 }
 
@@ -131,16 +131,16 @@ fn push_next_case(
 fn push_cases(
     alloc: Global,
     text: &mut String,
-    verdict: Verdict,
+    stopping: Stopping,
     seed: RandomState,
     findings: &[&Finding],
 ) -> Result<(), AllocError>
     ensures { OnOk result (string_bytes text.new
-        ≡ string_bytes text.old ++ said.cases_after verdict [] (pointed findings.now)) }
+        ≡ string_bytes text.old ++ said.cases_after stopping [] (pointed findings.now)) }
 {
     let mut counts: IndexMap<String, u64, RandomState> = IndexMap::with_hasher(alloc, seed);
     for finding in findings {
-        push_next_case(alloc, text, &mut counts, verdict, finding)?;
+        push_next_case(alloc, text, &mut counts, stopping, finding)?;
     }
     Ok(())
 }
@@ -149,16 +149,16 @@ fn push_cases(
 fn push_suite(
     alloc: Global,
     text: &mut String,
-    verdict: Verdict,
+    stopping: Stopping,
     seed: RandomState,
     tool: &str,
     findings: &[&Finding],
 ) -> Result<(), AllocError>
     ensures { OnOk result (string_bytes text.new
-        ≡ string_bytes text.old ++ said.suite_of verdict tool.now (pointed findings.now)) }
+        ≡ string_bytes text.old ++ said.suite_of stopping tool.now (pointed findings.now)) }
 {
-    push_suite_begin(alloc, text, verdict, tool, findings)?;
-    push_cases(alloc, text, verdict, seed, findings)?;
+    push_suite_begin(alloc, text, stopping, tool, findings)?;
+    push_cases(alloc, text, stopping, seed, findings)?;
     text.push_str(suite_end())?;
     Ok(())
 }
@@ -167,17 +167,17 @@ fn push_suite(
 fn push_suite_at(
     alloc: Global,
     text: &mut String,
-    verdict: Verdict,
+    stopping: Stopping,
     seed: RandomState,
     suites: &Suites<'_>,
     number: usize,
 ) -> Result<(), AllocError>
     ensures { OnOk result (string_bytes text.new ≡ string_bytes text.old
-        ++ text_at verdict (slice_get suites.now.entries number)) }
+        ++ text_at stopping (slice_get suites.now.entries number)) }
 {
     if let Some((tool, results)) = suites.get_index(number) {
         let results = results.as_slice();
-        push_suite(alloc, text, verdict, seed, tool.as_str(), results)?;
+        push_suite(alloc, text, stopping, seed, tool.as_str(), results)?;
     }
     Ok(())
 }
@@ -186,15 +186,15 @@ fn push_suite_at(
 fn push_all_suites(
     alloc: Global,
     text: &mut String,
-    verdict: Verdict,
+    stopping: Stopping,
     seed: RandomState,
     suites: &Suites<'_>,
 ) -> Result<(), AllocError>
     ensures { OnOk result (string_bytes text.new
-        ≡ string_bytes text.old ++ flat_map (entry_text verdict) suites.now.entries) }
+        ≡ string_bytes text.old ++ flat_map (entry_text stopping) suites.now.entries) }
 {
     for number in 0..suites.len() {
-        push_suite_at(alloc, text, verdict, seed, suites, number)?;
+        push_suite_at(alloc, text, stopping, seed, suites, number)?;
     }
     Ok(())
 }
@@ -203,15 +203,15 @@ fn push_all_suites(
 fn push_suites(
     alloc: Global,
     text: &mut String,
-    verdict: Verdict,
+    stopping: Stopping,
     seed: RandomState,
     findings: &[&Finding],
 ) -> Result<(), AllocError>
     ensures { OnOk result (string_bytes text.new
-        ≡ string_bytes text.old ++ said.suites_in verdict (pointed findings.now)) }
+        ≡ string_bytes text.old ++ said.suites_in stopping (pointed findings.now)) }
 {
     let suites = suites_of(alloc, seed, findings)?;
-    push_all_suites(alloc, text, verdict, seed, &suites)?;
+    push_all_suites(alloc, text, stopping, seed, &suites)?;
     Ok(())
 }
 
@@ -220,14 +220,14 @@ fn push_suites(
 fn push_document_begin(
     alloc: Global,
     text: &mut String,
-    verdict: Verdict,
+    stopping: Stopping,
     findings: &[&Finding],
 ) -> Result<(), AllocError>
     ensures { OnOk result (string_bytes text.new
-        ≡ string_bytes text.old ++ said.document_begin verdict (pointed findings.now)) }
+        ≡ string_bytes text.old ++ said.document_begin stopping (pointed findings.now)) }
 {
     text.push_str(document_head())?;
-    push_counts(alloc, text, verdict, findings)?;
+    push_counts(alloc, text, stopping, findings)?;
     text.push_str("\">\n")?;
     Ok(())
 }
@@ -236,18 +236,18 @@ fn push_document_begin(
 fn junit_document(
     alloc: Global,
     seed: RandomState,
-    verdict: Verdict,
+    stopping: Stopping,
     findings: &[&Finding],
 ) -> Result<String, AllocError>
     ensures { IfOk result
-        (λ s. string_bytes s ≡ said.junit_document verdict (pointed findings.now)) }
+        (λ s. string_bytes s ≡ said.junit_document stopping (pointed findings.now)) }
 {
     if tests_in(findings) == 0 {
         return String::from_str(alloc, passed_document());
     }
     let mut text = String::new(alloc);
-    push_document_begin(alloc, &mut text, verdict, findings)?;
-    push_suites(alloc, &mut text, verdict, seed, findings)?;
+    push_document_begin(alloc, &mut text, stopping, findings)?;
+    push_suites(alloc, &mut text, stopping, seed, findings)?;
     text.push_str(document_end())?;
     Ok(text)
 }
@@ -258,7 +258,7 @@ fn junit_document(
 pub fn junit_report(alloc: Global, told: &ReportInput<'_>) -> Result<String, AllocError>
     ensures { IfOk result (λ s. string_bytes s ≡ said.junit_of (facts_of told.now)) }
 {
-    let verdict = verdict_told(told.counts, told.policy, &told.change);
+    let stopping = gate_stopping(told);
     let listed = list_findings(alloc, told.findings)?;
-    junit_document(alloc, told.seed, verdict, listed.as_slice())
+    junit_document(alloc, told.seed, stopping, listed.as_slice())
 }

@@ -2,7 +2,7 @@
 //! cover any strings. Without a change they are on all results of the log that are shown, and with one on those inside
 //! of it.
 ghost use Rattle.std.specs.Prelude.{◌≡◌, ◌<◌, ◌≤◌, ◌+◌, ◌==◌, ◌^◌, ℕ, Bool, List, Option, true};
-ghost use Rattle.std.specs.Prelude.{[], Some, bytes_eq};
+ghost use Rattle.std.specs.Prelude.{[], None, Some, bytes_eq};
 ghost use Rattle.std.specs.Prelude.{codes, flat_map, length, nat_lt};
 ghost use Rattle.std.specs.List.{All, IsDistinct, count_by};
 ghost use Rattle.std.specs.Str.{IsUtf8};
@@ -10,6 +10,8 @@ ghost use Rattle.json.specs.Json.{document};
 ghost use Rattle.serde_json.specs.Data.{Data, array};
 ghost use Rattle.serde_json.specs.Written.{outline};
 ghost use Rattle.sarif_model.specs.Run.{runs_of};
+ghost use Rattle.sarif_conditions.specs.declared.facts.PolicyFacts.{PolicyFacts};
+ghost use Rattle.sarif_counts.specs.Impacts.{is_hit};
 ghost use Rattle.sarif_scope.specs.Counted.{hits_by, verdict_by};
 ghost use Rattle.sarif_scope.specs.declared.gated.GatedChange.{GatedChange};
 ghost use Rattle.sarif_findings.specs.declared.finding.Finding.{Finding};
@@ -19,12 +21,13 @@ ghost use Rattle.sarif_shown.specs.EscapedLaws.{has_no_mark};
 ghost use Rattle.sarif_shown.specs.Facts.{Facts};
 ghost use Rattle.sarif_reports.specs.GitlabReport.{gitlab_of, hashed_texts, items_after};
 ghost use Rattle.sarif_findings.specs.declared.reporting.Reporting.{Reporting};
-ghost use Rattle.sarif_reports.specs.JunitLaws.{IsXmlText, cases_of, document_of, fails, names_after, occurrences};
-ghost use Rattle.sarif_reports.specs.MarkdownLaws.{AreLinks, AreSmall, have_bars, most_of};
+ghost use Rattle.sarif_reports.specs.JunitLaws.{IsXmlText, cases_of, document_of, names_after, occurrences};
+ghost use Rattle.sarif_reports.specs.MarkdownLaws.{AreFewConditions, AreLinks, AreSmall, have_bars, most_of};
 ghost use Rattle.sarif_reports.specs.MarkdownReport.{in_table, left_out, markdown_of, result_row};
-ghost use Rattle.sarif_reports.specs.MarkdownReport.{Row, row_text};
+ghost use Rattle.sarif_reports.specs.MarkdownReport.{Row, room_for, row_text};
 ghost use Rattle.sarif_page.specs.HtmlAttributes.{attributes_in};
 ghost use Rattle.sarif_reports.specs.MarkdownTags.{has_row_marks, row_attributes, row_tags, tags_of};
+ghost use Rattle.sarif_shown.specs.PolicyLaws.{is_fail};
 ghost use Rattle.sarif_shown.specs.ReportedInside.{reported_by};
 
 /// Each mark of a string in Markdown is part of a `&#N;`: no string makes a cell, a link, emphasis or a tag.
@@ -42,15 +45,15 @@ pub fn hashed_texts_differ()
 /// In Markdown the table of results has one line per row, and each line has eight bars: no log adds a line or a
 /// cell.
 pub fn markdown_rows_have_their_cells()
-    ensures bars { (link : Option (List ℕ)) (change : Option GatedChange) (reporting : Reporting)
-        (log : Data) → AreLinks link
+    ensures bars { (link : Option (List ℕ)) (room : ℕ) (change : Option GatedChange)
+        (reporting : Reporting) (log : Data) → AreLinks link
         → have_bars 8 0
-        (flat_map (row_text link) (in_table link (reported_by change reporting log))) ≡ true }
-    ensures lines { (link : Option (List ℕ)) (change : Option GatedChange) (reporting : Reporting)
-        (log : Data) → AreLinks link
+        (flat_map (row_text link) (in_table link room (reported_by change reporting log))) ≡ true }
+    ensures lines { (link : Option (List ℕ)) (room : ℕ) (change : Option GatedChange)
+        (reporting : Reporting) (log : Data) → AreLinks link
         → count_by (λ b. b == 10)
-        (flat_map (row_text link) (in_table link (reported_by change reporting log)))
-        ≡ length (in_table link (reported_by change reporting log)) }
+        (flat_map (row_text link) (in_table link room (reported_by change reporting log)))
+        ≡ length (in_table link room (reported_by change reporting log)) }
 {}
 
 /// In Markdown a reader of one row or more finds only the tags and attributes that are stated for them, for any strings
@@ -66,31 +69,35 @@ pub fn markdown_rows_have_their_tags()
 {}
 
 /// In Markdown each reported result has a row or is counted in the line on those that have none, and so has each hit.
-/// If anything is reported, there is a row: each takes at most 48,000 bytes. The rows have at most 60,000 bytes.
+/// Each row takes at most 48,000 bytes, and the rows together at most their room, which is 60,000 bytes without a policy.
+/// So without a policy there is a row if anything is reported.
 pub fn markdown_tables_count_all_results()
-    ensures results { (link : Option (List ℕ)) (findings : List Finding) →
-        length (in_table link findings) + length (left_out link findings) ≡ length findings }
-    ensures hits { (link : Option (List ℕ)) (change : Option GatedChange) (reporting : Reporting)
-        (log : Data) →
-        count_by (λ row. row.1.hit) (in_table link (reported_by change reporting log))
-        + count_by (λ f. f.hit) (left_out link (reported_by change reporting log))
+    ensures results { (link : Option (List ℕ)) (room : ℕ) (findings : List Finding) →
+        length (in_table link room findings) + length (left_out link room findings) ≡ length findings }
+    ensures hits { (link : Option (List ℕ)) (room : ℕ) (change : Option GatedChange)
+        (reporting : Reporting) (log : Data) →
+        count_by (λ row. is_hit row.1.impact) (in_table link room (reported_by change reporting log))
+        + count_by (λ f. is_hit f.impact) (left_out link room (reported_by change reporting log))
         ≡ hits_by change reporting.policy (runs_of log) }
     ensures row { (link : Option (List ℕ)) (change : Option GatedChange) (reporting : Reporting)
         (log : Data) → AreLinks link
         → 0 < length (reported_by change reporting log)
-        → 0 < length (in_table link (reported_by change reporting log)) }
+        → 0 < length (in_table link (room_for None) (reported_by change reporting log)) }
     ensures few { (link : Option (List ℕ)) (coded : Bool) (change : Option GatedChange)
         (reporting : Reporting) (log : Data)
         → AreLinks link → All (λ f. length (result_row link coded f) ≤ 48000)
         (reported_by change reporting log) }
-    ensures bytes { (link : Option (List ℕ)) (findings : List Finding) →
-        length (flat_map (row_text link) (in_table link findings)) ≤ 60000 }
+    ensures bytes { (link : Option (List ℕ)) (room : ℕ) (findings : List Finding) →
+        length (flat_map (row_text link) (in_table link room findings)) ≤ room }
 {}
 
 /// A report in Markdown has at most 61,000 bytes, or 61,100 with a change, if its numbers have 32 bits: fewer than a
-/// comment may have.
+/// comment may have. With a policy it has at most 62,000, if its conditions are such as a policy file may have.
 pub fn markdown_reports_fit_into_comments()
-    ensures { (facts : Facts) → AreSmall facts → length (markdown_of facts) ≤ most_of facts.change }
+    ensures most { (facts : Facts) → AreSmall facts → length (markdown_of facts) ≤ most_of facts }
+    ensures policy { (facts : Facts) (ruling : PolicyFacts) → AreSmall facts
+        → facts.ruling ≡ Some ruling → AreFewConditions ruling
+        → length (markdown_of facts) ≤ 62000 }
 {}
 
 /// Read as JSON, the report for GitLab is the array of its objects, for any strings: no log adds an object or a
@@ -116,7 +123,7 @@ pub fn junit_cases_are_results()
     ensures verdict { (change : Option GatedChange) (reporting : Reporting) (log : Data)
         → length (reported_by change reporting log) < 2 ^ 64
         → nat_lt 0 (occurrences (codes "<failure ") (document_of change reporting log))
-        ≡ fails (verdict_by change reporting.policy (runs_of log)) }
+        ≡ is_fail (verdict_by change reporting.policy (runs_of log)) }
 {}
 
 /// No two test cases of a suite have the same name, for any results.

@@ -12,6 +12,7 @@ mod later_outputs;
 mod laws;
 mod markdown_table;
 mod objects;
+mod policy_laws;
 mod quality;
 mod quoted;
 mod ranked;
@@ -26,4 +27,5 @@ pub use laws::{
     markdown_rows_have_their_cells, markdown_tables_count_all_results, markdown_texts_hold_no_mark,
 };
 pub use markdown_table::markdown_report;
+pub use policy_laws::{junit_cases_follow_conditions, markdown_rows_of_a_policy_have_their_cells};
 pub use report::{Report, report_text};

@@ -4,20 +4,23 @@ ghost use Rattle.std.specs.List.{count_by, enumerate_from};
 ghost use Rattle.sarif_shown.specs.declared.escaping.Escaping.TheVariants.{Page};
 ghost use Rattle.sarif_shown.specs.Escaped.{escaped};
 ghost use Rattle.sarif_counts.specs.Counts.{count_at};
+ghost use Rattle.sarif_counts.specs.Impacts.{is_hit};
 ghost use Rattle.sarif_shown.specs.CountRow.{row_begin, row_end};
 ghost use Rattle.sarif_shown.specs.Facts.{facts_of};
 ghost use Rattle.sarif_reports.specs.MarkdownReport as said;
 ghost use Rattle.sarif_reports.specs.MarkdownLaws.{most_of};
-ghost use Rattle.sarif_shown.specs.Sentences.{entries_text, outside_text, runs_text};
+ghost use Rattle.sarif_shown.specs.Sentences.{entries_text, filters_text, outside_text, runs_text, unchecked_text};
 
+use sarif_conditions::{ConditionFacts, PolicyFacts};
 use sarif_counts::{Counts, Verdict};
 use sarif_findings::Finding;
 use sarif_links::Template;
 use sarif_model::State;
-use sarif_scope::{hits_told, outside_told, verdict_told};
 use sarif_shown::{
-    Escaping, ReportInput, accept_text, entries_text, gate_text, list_findings, more_text,
-    outside_text, place_link, push_place, row_numbers, runs_text, unshown_number, unshown_text,
+    Escaping, Noted, ReportInput, accept_text, condition_cells, entries_text, filters_text,
+    gate_ending, gate_hits, gate_text, gate_verdict, list_findings, more_text, noted_in,
+    outside_text, place_link, push_place, row_numbers, runs_text, unchecked_text, unshown_results,
+    unshown_text,
 };
 use std::alloc::{AllocError, Global};
 
@@ -32,6 +35,9 @@ const MOST_CODED: usize = 20;
 
 const COUNTS_HEAD: &str = "\
 | | error | warning | note | none | suppressed |\n|---|--:|--:|--:|--:|--:|\n";
+
+const CONDITIONS_HEAD: &str = "\
+\n| condition | verdict | hits | limit | outside |\n|---|---|--:|--:|--:|\n";
 
 const RESULTS_HEAD: &str = "\
 \n| hit | level | place | rule | message | tool | state |\n|---|---|---|---|---|---|---|\n";
@@ -49,10 +55,10 @@ fn push_code(alloc: Global, text: &mut String, plain: &str) -> Result<(), AllocE
     Ok(())
 }
 
-fn heading(alloc: Global, verdict: Verdict, hits: u32, max: u32) -> Result<String, AllocError>
-    ensures { IfOk result (λ s. string_bytes s ≡ said.heading verdict hits max) }
+fn heading(alloc: Global, verdict: Verdict, end: &str) -> Result<String, AllocError>
+    ensures { IfOk result (λ s. string_bytes s ≡ said.heading verdict end.now) }
 {
-    let gate = gate_text(alloc, verdict, hits, max)?;
+    let gate = gate_text(alloc, verdict, end)?;
     format!(in alloc; "## {gate}\n\n")
 }
 
@@ -99,6 +105,67 @@ fn push_counts(alloc: Global, text: &mut String, counts: &Counts) -> Result<(), 
     push_count_row(alloc, text, counts, State::Updated)?;
     push_count_row(alloc, text, counts, State::Absent)?;
     Ok(())
+}
+
+/// Adds the row of a condition.
+fn push_condition_row(
+    alloc: Global,
+    text: &mut String,
+    condition: &ConditionFacts,
+) -> Result<(), AllocError>
+    ensures { OnOk result
+        (string_bytes text.new ≡ string_bytes text.old ++ said.condition_row condition.now) }
+{
+    let cells = condition_cells(alloc, " | ", "", condition)?;
+    text.push_str("| ")?;
+    push_code(alloc, text, condition.name.as_str())?;
+    text.push_str(cells.as_str())?;
+    text.push_str(" |\n")?;
+    Ok(())
+}
+
+/// Adds the rows of these conditions.
+fn push_condition_rows(
+    alloc: Global,
+    text: &mut String,
+    conditions: &[ConditionFacts],
+) -> Result<(), AllocError>
+    ensures { OnOk result (string_bytes text.new
+        ≡ string_bytes text.old ++ said.condition_rows conditions.now) }
+{
+    for condition in conditions {
+        push_condition_row(alloc, text, condition)?;
+    }
+    Ok(())
+}
+
+/// Returns the rows of the conditions.
+fn condition_rows(alloc: Global, ruling: &PolicyFacts) -> Result<String, AllocError>
+    ensures { IfOk result (λ s. string_bytes s ≡ said.condition_rows ruling.now.conditions) }
+{
+    let mut rows = String::new(alloc);
+    push_condition_rows(alloc, &mut rows, ruling.conditions.as_slice())?;
+    Ok(rows)
+}
+
+/// Adds the table of the conditions, if there is a policy. Returns how many bytes the rows of results may have.
+fn push_conditions(
+    alloc: Global,
+    text: &mut String,
+    ruling: Option<&PolicyFacts>,
+) -> Result<usize, AllocError>
+    ensures table { OnOk result (string_bytes text.new ≡ string_bytes text.old
+        ++ said.conditions_table (option_map (λ ruling. ruling.now) ruling.entry)) }
+    ensures room { IfOk result
+        (λ room. room ≡ said.room_for (option_map (λ ruling. ruling.now) ruling.entry)) }
+{
+    let Some(ruling) = ruling else {
+        return Ok(MOST_BYTES);
+    };
+    let rows = condition_rows(alloc, ruling)?;
+    text.push_str(CONDITIONS_HEAD)?;
+    text.push_str(rows.as_str())?;
+    Ok(MOST_BYTES.saturating_sub(rows.len()))
 }
 
 fn hit_cell(hit: bool) -> &'static str
@@ -268,7 +335,7 @@ fn push_place_cells(
     ensures { OnOk result (string_bytes text.new ≡ string_bytes text.old
         ++ said.place_cells (option_map (λ link. link.now) link.entry) finding.now) }
 {
-    text.push_str(hit_cell(finding.hit))?;
+    text.push_str(hit_cell(finding.impact.is_hit()))?;
     text.push_str(finding.level.name())?;
     text.push_str(" | ")?;
     push_place_cell(alloc, text, link, finding)?;
@@ -304,36 +371,37 @@ fn row_of(
         ≡ said.row_text (option_map (λ link. link.now) link.entry) (index, finding.now)) }
 {
     let mut row = String::new(alloc);
-    let coded = index < MOST_CODED && finding.hit;
+    let coded = index < MOST_CODED && finding.impact.is_hit();
     push_row(alloc, &mut row, link, coded, finding)?;
     Ok(row)
 }
 
-/// Adds the rows of these results, as many from the first on as fit into `MOST_BYTES`. Returns how many these are.
+/// Adds the rows of these results, as many from the first on as fit into `room` bytes. Returns how many these are.
 fn push_fitting(
     alloc: Global,
     text: &mut String,
     link: Option<&Template>,
+    room: usize,
     listed: &[&Finding],
 ) -> Result<usize, AllocError>
     ensures rows { OnOk result (string_bytes text.new ≡ string_bytes text.old
         ++ flat_map (said.row_text (option_map (λ link. link.now) link.entry))
-        (said.fitting (option_map (λ link. link.now) link.entry) said.most_bytes
+        (said.fitting (option_map (λ link. link.now) link.entry) room
         (enumerate_from 0 (map (λ f. f.now) listed.now)))) }
     ensures count { IfOk result
-        (λ n. n ≡ length (said.fitting (option_map (λ link. link.now) link.entry) said.most_bytes
+        (λ n. n ≡ length (said.fitting (option_map (λ link. link.now) link.entry) room
         (enumerate_from 0 (map (λ f. f.now) listed.now)))) }
     ensures few { IfOk result (λ n. n ≤ length listed.now) }
 {
-    let mut room = MOST_BYTES;
+    let mut left = room;
     let mut count = 0;
     for (index, finding) in listed.iter().enumerate() {
         let row = row_of(alloc, link, index, finding)?;
-        if row.len() > room {
+        if row.len() > left {
             return Ok(count);
         }
         text.push_str(row.as_str())?;
-        room -= row.len();
+        left -= row.len();
         count += 1;
     }
     Ok(count)
@@ -350,30 +418,32 @@ fn first_rows<'a, 'f>(listed: &'a [&'f Finding]) -> &'a [&'f Finding]
     }
 }
 
-/// Adds the rows of the first of these results, as many as the table holds. Returns how many these are.
+/// Adds the rows of the first of these results, as many as the table holds and fit into `room` bytes. Returns how many
+/// these are.
 fn push_rows(
     alloc: Global,
     text: &mut String,
     link: Option<&Template>,
+    room: usize,
     listed: &[&Finding],
 ) -> Result<usize, AllocError>
     ensures rows { OnOk result (string_bytes text.new ≡ string_bytes text.old
         ++ flat_map (said.row_text (option_map (λ link. link.now) link.entry))
-        (said.rows_of (option_map (λ link. link.now) link.entry) (map (λ f. f.now) listed.now))) }
+        (said.rows_of (option_map (λ link. link.now) link.entry) room (map (λ f. f.now) listed.now))) }
     ensures count { IfOk result (λ n. n ≡ length
-        (said.rows_of (option_map (λ link. link.now) link.entry) (map (λ f. f.now) listed.now))) }
+        (said.rows_of (option_map (λ link. link.now) link.entry) room (map (λ f. f.now) listed.now))) }
     ensures few { IfOk result (λ n. n ≤ length listed.now) }
 {
-    push_fitting(alloc, text, link, first_rows(listed))
+    push_fitting(alloc, text, link, room, first_rows(listed))
 }
 
 /// How many of these results are hits.
 fn hits_among(listed: &[&Finding]) -> usize
-    ensures { result ≡ count_by (λ f. f.hit) (map (λ f. f.now) listed.now) }
+    ensures { result ≡ count_by (λ f. is_hit f.impact) (map (λ f. f.now) listed.now) }
 {
     let mut count = 0;
     for finding in listed {
-        if finding.hit {
+        if finding.impact.is_hit() {
             count += 1;
         }
     }
@@ -419,38 +489,35 @@ fn after<'a, 'f>(listed: &'a [&'f Finding], count: usize) -> &'a [&'f Finding]
     &listed[count..]
 }
 
-/// Adds the table of results.
-fn push_table(
-    alloc: Global,
-    text: &mut String,
-    link: Option<&Template>,
-    findings: &[Finding],
-) -> Result<(), AllocError>
-    ensures { OnOk result (string_bytes text.new ≡ string_bytes text.old
-        ++ said.table_of (option_map (λ link. link.now) link.entry) findings.now) }
+/// Adds the head of the table, if it has rows.
+fn push_head(text: &mut String, rows: usize) -> Result<(), AllocError>
+    ensures { OnOk result (string_bytes text.new ≡ string_bytes text.old ++ said.head_for rows) }
 {
-    let listed = list_findings(alloc, findings)?;
-    let listed = listed.as_slice();
-    text.push_str(RESULTS_HEAD)?;
-    let count = push_rows(alloc, text, link, listed)?;
-    let others = others_line(alloc, after(listed, count))?;
-    push_paragraph(text, others.as_str())?;
+    if rows != 0 {
+        text.push_str(RESULTS_HEAD)?;
+    }
     Ok(())
 }
 
-/// Adds the table of results, if there are any.
+/// Adds the table of results, whose rows have at most `room` bytes, and the line on those that have no row.
 fn push_results(
     alloc: Global,
     text: &mut String,
     link: Option<&Template>,
+    room: usize,
     findings: &[Finding],
 ) -> Result<(), AllocError>
     ensures { OnOk result (string_bytes text.new ≡ string_bytes text.old
-        ++ said.results_table (option_map (λ link. link.now) link.entry) findings.now) }
+        ++ said.results_table (option_map (λ link. link.now) link.entry) room findings.now) }
 {
-    if !findings.is_empty() {
-        push_table(alloc, text, link, findings)?;
-    }
+    let listed = list_findings(alloc, findings)?;
+    let listed = listed.as_slice();
+    let mut rows = String::new(alloc);
+    let count = push_rows(alloc, &mut rows, link, room, listed)?;
+    push_head(text, count)?;
+    text.push_str(rows.as_str())?;
+    let others = others_line(alloc, after(listed, count))?;
+    push_paragraph(text, others.as_str())?;
     Ok(())
 }
 
@@ -487,6 +554,30 @@ fn outside_line(alloc: Global, outside: u32) -> Result<String, AllocError>
         return Ok(String::new(alloc));
     }
     let sentence = outside_text(alloc, outside)?;
+    format!(in alloc; "{sentence}\n")
+}
+
+/// Returns the line on filters that match nothing, if there are any.
+fn filters_line(alloc: Global, filters: u32) -> Result<String, AllocError>
+    ensures { IfOk result
+        (λ s. string_bytes s ≡ said.line_if filters (filters_text filters)) }
+{
+    if filters == 0 {
+        return Ok(String::new(alloc));
+    }
+    let sentence = filters_text(alloc, filters)?;
+    format!(in alloc; "{sentence}\n")
+}
+
+/// Returns the line on results that no condition checks, if there are any.
+fn unchecked_line(alloc: Global, unchecked: u32) -> Result<String, AllocError>
+    ensures { IfOk result
+        (λ s. string_bytes s ≡ said.line_if unchecked (unchecked_text unchecked)) }
+{
+    if unchecked == 0 {
+        return Ok(String::new(alloc));
+    }
+    let sentence = unchecked_text(alloc, unchecked)?;
     format!(in alloc; "{sentence}\n")
 }
 
@@ -535,49 +626,47 @@ fn push_accept(alloc: Global, text: &mut String, hits: u32) -> Result<(), AllocE
     Ok(())
 }
 
-/// Adds the lines on runs without results, on unused entries and on results outside of the change, if there are any.
-fn push_notes(
-    alloc: Global,
-    text: &mut String,
-    without: u32,
-    unused: u32,
-    outside: u32,
-) -> Result<(), AllocError>
-    ensures { OnOk result (string_bytes text.new
-        ≡ string_bytes text.old ++ said.paragraph (said.notes without unused outside)) }
+/// Returns the lines on what wasn't looked at.
+fn notes_of(alloc: Global, numbers: &Noted) -> Result<String, AllocError>
+    ensures { IfOk result (λ s. string_bytes s ≡ said.notes numbers.now) }
 {
-    let mut notes = runs_line(alloc, without)?;
-    let entries = entries_line(alloc, unused)?;
-    let others = outside_line(alloc, outside)?;
-    notes.push_str(entries.as_str())?;
-    notes.push_str(others.as_str())?;
+    let without = runs_line(alloc, numbers.without)?;
+    let unused = entries_line(alloc, numbers.unused)?;
+    let filters = filters_line(alloc, numbers.filters)?;
+    let outside = outside_line(alloc, numbers.outside)?;
+    let unchecked = unchecked_line(alloc, numbers.unchecked)?;
+    format!(in alloc; "{without}{unused}{filters}{outside}{unchecked}")
+}
+
+/// Adds the lines on what wasn't looked at, if there are any.
+fn push_notes(alloc: Global, text: &mut String, numbers: &Noted) -> Result<(), AllocError>
+    ensures { OnOk result (string_bytes text.new
+        ≡ string_bytes text.old ++ said.paragraph (said.notes numbers.now)) }
+{
+    let notes = notes_of(alloc, numbers)?;
     push_paragraph(text, notes.as_str())?;
     Ok(())
 }
 
-/// Returns the report for job summaries and comments on a change: the verdict, the counts, runs without results,
-/// and a table of the first listed results: at most 200, whose rows take at most 60,000 bytes. Rules link to their pages
-/// and places to their addresses; the rows of the first 20 hits have a line of code. The whole report has at
-/// most 61,000 bytes, or 61,100 if the gate checks a change: fewer than a comment may have. Returns `AllocError` if
-/// memory for it runs out.
+/// Returns the report for job summaries and comments on a change: the verdict, the counts, what wasn't looked at, with a
+/// policy a table of its conditions, and a table of the first listed results: at most 200, whose rows take at most 60,000
+/// bytes together with those of the conditions. Rules link to their pages and places to their addresses; the rows of the
+/// first 20 hits have a line of code. The whole report has at most 61,000 bytes, or 61,100 if the gate checks a change, or
+/// 62,000 with a policy: fewer than a comment may have. Returns `AllocError` if memory for it runs out.
 pub fn markdown_report(alloc: Global, told: &ReportInput<'_>) -> Result<String, AllocError>
     ensures text { IfOk result (λ s. string_bytes s ≡ said.markdown_of (facts_of told.now)) }
-    ensures short { IfOk result (λ s. length (string_bytes s) ≤ most_of told.now.change) }
+    ensures short { IfOk result (λ s. length (string_bytes s) ≤ most_of (facts_of told.now)) }
 {
-    let ReportInput {
-        counts,
-        policy,
-        findings,
-        ..
-    } = *told;
-    let hits = hits_told(counts, policy, &told.change);
-    let verdict = verdict_told(counts, policy, &told.change);
-    let mut text = heading(alloc, verdict, hits, policy.max)?;
-    push_counts(alloc, &mut text, counts)?;
-    let outside = outside_told(&told.change);
-    push_notes(alloc, &mut text, told.without, told.unused, outside)?;
-    push_results(alloc, &mut text, told.link, findings)?;
-    let unshown = unshown_number(told.show, counts, policy, &told.change);
+    let verdict = gate_verdict(told);
+    let ending = gate_ending(alloc, told)?;
+    let mut text = heading(alloc, verdict, ending.as_str())?;
+    push_counts(alloc, &mut text, told.counts)?;
+    let numbers = noted_in(told);
+    push_notes(alloc, &mut text, &numbers)?;
+    let room = push_conditions(alloc, &mut text, told.ruling)?;
+    push_results(alloc, &mut text, told.link, room, told.findings)?;
+    let unshown = unshown_results(told);
+    let hits = gate_hits(told);
     push_last(alloc, &mut text, unshown, hits)?;
     Ok(text)
 }

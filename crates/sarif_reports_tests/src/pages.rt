@@ -28,6 +28,7 @@ fn empty_page<'a>(
         unused: 0,
         life: None,
         change,
+        ruling: None,
         seed,
     };
     html_report(alloc, &told)

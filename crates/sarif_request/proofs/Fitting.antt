@@ -1,5 +1,5 @@
 -- What a request has for a new suppression file, since options go together.
-use Rattle.std.proofs.Common.{◌≡◌, ◌∙◌, ◌≤◌, ℕ, Bool, true, false, not, ◌||◌, nat_lt, List, Option, Some, None, Ok, IfSome, is_some, codes, refl, sym, ap, ap₂, subst, arith, if◌then◌else◌, true≢false}
+use Rattle.std.proofs.Common.{◌≡◌, ◌∙◌, ◌≤◌, ℕ, Bool, true, false, not, ◌&&◌, ◌||◌, nat_lt, List, Option, Some, None, Ok, IfSome, is_some, codes, refl, sym, ap, ap₂, subst, arith, if◌then◌else◌, true≢false}
 use Rattle.std.proofs.lemmas.Bool.Decides.{nat_tests}
 use Rattle.std.specs.Option.{option_or}
 use Rattle.clap.specs.Words.{Row, Text, first_of, matches_of, one_of}
@@ -9,11 +9,11 @@ use Rattle.sarif_entries.specs.Entries.{is_day}
 use Rattle.sarif_request.specs.declared.request.Request.{Request}
 use Rattle.sarif_request.specs.declared.together.GivenOptions.{GivenOptions}
 use Rattle.sarif_request.specs.declared.together.Misfit.{Misfit}
-use Rattle.sarif_request.specs.declared.together.Misfit.TheVariants.{AcceptNeedsFile, PruneNeedsFile, FileNeedsChange, PlaceNeedsAccept, PruneNeedsEntries, ReasonNeedsAccept, RuleNeedsAccept, UntilIsNoDate, UntilIsPast, UntilNeedsAccept, UntilNeedsToday}
+use Rattle.sarif_request.specs.declared.together.Misfit.TheVariants.{AcceptNeedsFile, PruneNeedsFile, FileNeedsChange, PlaceNeedsAccept, PruneNeedsEntries, ReasonNeedsAccept, RuleNeedsAccept, UntilIsNoDate, UntilIsPast, UntilNeedsAccept, UntilNeedsToday, LevelWithPolicy, StatesWithPolicy, LimitWithPolicy, ScopeWithPolicy}
 use Rattle.sarif_request.specs.Command.{program}
 use Rattle.sarif_request.specs.Dates.{IsNotPast}
-use Rattle.sarif_request.specs.Together.{date_misfit, diff_misfit, lacks, misfit_of, until_misfit, upkeep_misfit}
-use Rattle.sarif_request.specs.Words.{GivesRequest, AreGiven, IsReadNumber, IsRenewal, choice_in, choosing_in, is_given, is_set}
+use Rattle.sarif_request.specs.Together.{date_misfit, diff_misfit, gate_misfit, lacks, misfit_of, policy_misfit, until_misfit, upkeep_misfit}
+use Rattle.sarif_request.specs.Words.{GivesRequest, AreGiven, HasNoGateOption, IsReadNumber, IsRenewal, HaveNoGateOption, choice_in, choosing_in, is_given, is_set}
 
 -- if nothing is wrong, the first test fails, and nothing is wrong after it
 past : (b : Bool) (why : Misfit) (rest : Option Misfit) → (if b then Some why else rest) ≡ None → (b ≡ false) × (rest ≡ None)
@@ -62,11 +62,29 @@ record HaveNeeded (given : GivenOptions) : Type 0 where
   at : lacks given.at given.accept ≡ false
   rule : lacks given.rule given.accept ≡ false
 
+-- options that a policy rules out aren't given with it
+record LeavesGate (given : GivenOptions) : Type 0 where
+  fail_on : (given.policy && given.fail_on) ≡ false
+  states : (given.policy && given.states) ≡ false
+  max : (given.policy && given.max) ≡ false
+  scope : (given.policy && given.diff_scope) ≡ false
+
 module _ (given : GivenOptions) (none : misfit_of given ≡ None) where
+  policy : LeavesGate given
+  policy =
+      let first = both_none (upkeep_misfit given) (option_or (until_misfit given) (gate_misfit given)) none in
+      let gate = both_none (until_misfit given) (gate_misfit given) first.1 in
+      let both = both_none (policy_misfit given) (diff_misfit given) gate.1 in
+      let level = past (given.policy && given.fail_on) LevelWithPolicy _ both.0 in
+      let states = past (given.policy && given.states) StatesWithPolicy _ level.1 in
+      let limit = past (given.policy && given.max) LimitWithPolicy _ states.1 in
+      let scope = past (given.policy && given.diff_scope) ScopeWithPolicy _ limit.1 in
+      record { fail_on = level.0; states = states.0; max = limit.0; scope = scope.0 }
+
   parts : (upkeep_misfit given ≡ None) × (until_misfit given ≡ None)
   parts =
-      let first = both_none (upkeep_misfit given) (option_or (until_misfit given) (diff_misfit given)) none in
-      (first.0, (both_none (until_misfit given) (diff_misfit given) first.1).0)
+      let first = both_none (upkeep_misfit given) (option_or (until_misfit given) (gate_misfit given)) none in
+      (first.0, (both_none (until_misfit given) (gate_misfit given) first.1).0)
 
   upkeep : HaveNeeded given
   upkeep =
@@ -140,12 +158,40 @@ each_choice rows given (Some choosing) renewal are none is renews =
     accepting rows given renewal are none
     (either_needs given.at given.rule given.accept (upkeep given none).at (upkeep given none).rule one) renews
 
+-- what is ruled out isn't given
+ruled_out : (a b : Bool) → (a && b) ≡ false → a ≡ true → b ≡ false
+ruled_out true b is one = is
+ruled_out false b is one = absurd (true≢false (sym one))
+
+each_policy : (rows : List Row) (given : GivenOptions) (name : Option Text) → AreGiven rows given → misfit_of given ≡ None
+    → name ≡ first_of (codes "policy") rows → IfSome name (λ _. HasNoGateOption rows)
+each_policy rows given None are none is = tt
+each_policy rows given (Some name) are none is =
+    let one : given.policy ≡ true = are.policy ∙ ap is_some (sym is) in
+    let leaves = policy given none in
+    record {
+      fail_on = sym are.fail_on ∙ ruled_out given.policy given.fail_on leaves.fail_on one;
+      states = sym are.states ∙ ruled_out given.policy given.states leaves.states one;
+      max = sym are.max ∙ ruled_out given.policy given.max leaves.max one;
+      diff_scope = sym are.diff_scope ∙ ruled_out given.policy given.diff_scope leaves.scope one;
+    }
+
+if_some : (name : Option Text) (P Q : Type 0) → (P → Q) → IfSome name (λ _. P) → IfSome name (λ _. Q)
+if_some None P Q goes held = tt
+if_some (Some text) P Q goes held = goes held
+
+pub leaving : (words : List (List ℕ)) (request : Request) → GivesRequest words (Ok request) → IfSome request.policy (λ _. HaveNoGateOption words)
+leaving words request (levels, named, sound, asks, (given, are, none), apart) =
+    let rows : List Row = matches_of (program levels) words in
+    if_some request.policy (HasNoGateOption rows) (HaveNoGateOption words) (λ held. (levels, named, held))
+    (each_policy rows given request.policy are none asks.policy)
+
 pub not_past : (words : List (List ℕ)) (request : Request) → GivesRequest words (Ok request)
     → IfSome request.upkeep.renewal (λ renewal. IsNotPast request.options.today renewal.until)
 not_past words request (levels, named, sound, asks, (given, are, none), apart) =
     let rows : List Row = matches_of (program levels) words in
     dated rows given request.options.today request.upkeep.renewal are none
-    (same_read (one_of (codes "today") rows) given.today request.options.today are.today asks.today) asks.renewal
+    (same_read (one_of (codes "today") rows) given.today request.options.today are.today asks.options.today) asks.renewal
 
 pub changed : (words : List (List ℕ)) (request : Request) → GivesRequest words (Ok request)
     → IfSome request.upkeep.renewal (λ renewal. (renewal.accept || renewal.prune) ≡ true)

@@ -71,4 +71,4 @@ clashing levels words OutOfMemory names clash told = tt
 -- the names of a request are the names in the arguments
 pub same_names : (rows : List Row) (request : Request) → AsksFor rows request → names_of request ≡ names_in rows
 same_names rows request asks =
-    rw (asks.logs, asks.baselines, asks.suppress, asks.diff, asks.out, asks.reports) refl
+    rw (asks.logs, asks.baselines, asks.suppress, asks.policy, asks.diff, asks.out, asks.reports) refl

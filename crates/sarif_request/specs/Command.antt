@@ -75,6 +75,7 @@ arguments =
     ∷ with_default (codes "new,updated") (argument (codes "states") Once)
     ∷ with_default (codes "0") (argument (codes "max") (Number (pos 0) (pos (2 ^ 32 - 1))))
     ∷ argument (codes "diff-scope") Once
+    ∷ argument (codes "policy") Once
     ∷ with_default (codes "2") (argument (codes "matching") (Number (pos 2) (pos 3)))
     ∷ argument (codes "once") Flag
     ∷ argument (codes "ignore-fingerprint") Many

@@ -6,7 +6,7 @@ use Rattle.clap.specs.Words.{Text}
 use Rattle.sarif_reports.specs.declared.report.Report.{Report}
 use Rattle.sarif_reports.specs.declared.report.Report.TheVariants as report
 use Rattle.sarif_request.specs.declared.clash.Clash.{Clash}
-use Rattle.sarif_request.specs.declared.clash.Clash.TheVariants.{RepeatedLog, RepeatedBaseline, Streams, Suppressions, Diff, Outputs, Log, Inputs}
+use Rattle.sarif_request.specs.declared.clash.Clash.TheVariants.{RepeatedLog, RepeatedBaseline, Streams, Suppressions, Policy, Diff, Outputs, Log, Inputs}
 use Rattle.sarif_request.specs.declared.request.Request.{Request}
 use Rattle.sarif_request.specs.declared.wanted.RequestedOutput.{RequestedOutput}
 
@@ -15,6 +15,7 @@ pub record Names : Type 0 where
   pub logs : List Text
   pub baselines : List Text
   pub suppress : Option Text
+  pub policy : Option Text
   pub diff : Option Text
   pub out : Text
   pub reports : List (RequestedOutput Text)
@@ -24,6 +25,7 @@ names_of request = record {
   logs = request.logs.items;
   baselines = request.baselines.items;
   suppress = request.suppress;
+  policy = request.policy;
   diff = request.diff;
   out = request.out;
   reports = request.reports.items;
@@ -57,6 +59,11 @@ abbrev pub replaces_suppressions : Names → Bool
 replaces_suppressions names = option_map_or
     (λ name. bytes_eq names.out name || list_any (replaces_file name) names.reports)
     names.suppress false
+
+-- an output has the name of the policy
+abbrev pub replaces_policy : Names → Bool
+replaces_policy names =
+    option_map_or (λ name. is_among name (outputs_of names)) names.policy false
 
 -- an output has the name of the diff; standard input has no name
 abbrev pub replaces_diff : Names → Bool
@@ -100,11 +107,12 @@ replaces_inputs names = list_any (replaces_input names) names.reports
 abbrev pub output_clash : Names → Option Clash
 output_clash names =
     if replaces_suppressions names then Some Suppressions else (
+    if replaces_policy names then Some Policy else (
     if replaces_diff names then Some Diff else (
     if have_one_name (outputs_of names) then Some Outputs else (
     if replaces_log names then Some Log else (
     if replaces_inputs names then Some Inputs else (
-    None)))))
+    None))))))
 
 -- why the names clash, if they do
 abbrev pub clash_of : Names → Option Clash

@@ -1,16 +1,19 @@
 -- What the arguments of the command line request, and the result if they make no request.
-use Rattle.std.specs.Prelude.{◌≡◌, ◌≢◌, ◌==◌, ℕ, Bool, true, false, is_some, List, [], ◌∷◌, flat_map, Option, Some, None, Result, Ok, Err, unwrap_or, option_and_then, option_map, codes, bytes_eq, min, max, ◌<◌, ◌^◌, ◌⊎◌, ◌||◌, ⊤, if◌then◌else◌}
+use Rattle.std.specs.Prelude.{◌≡◌, ◌≢◌, ◌==◌, ℕ, Bool, true, false, find, is_some, List, [], ◌∷◌, flat_map, Option, Some, None, Result, Ok, Err, unwrap_or, option_and_then, option_map, codes, bytes_eq, min, max, ◌<◌, ◌^◌, ◌⊎◌, ◌||◌, ⊤, if◌then◌else◌}
 use Rattle.std.specs.Borrow.{Bor}
 use Rattle.std.specs.Option.{option_map_or}
 use Rattle.std.specs.Str.Parse.{IsNumeral, digits_value, without_leading_plus}
 use Rattle.clap.specs.Words.{App, IsAmong, Row, Text, all_of, first_of, one_of, fault_of, matches_of}
 use Rattle.clap.specs.declared.error.kind.ErrorKind.{ErrorKind}
 use Rattle.clap.specs.declared.error.kind.ErrorKind.TheVariants as kind
+use Rattle.clap.specs.declared.parser.matches.ValueSource.{ValueSource}
+use Rattle.clap.specs.declared.parser.matches.ValueSource.TheVariants.{CommandLine}
 use Rattle.sarif_evidence.specs.declared.version.MatchingVersion.{MatchingVersion}
 use Rattle.sarif_evidence.specs.declared.version.MatchingVersion.TheVariants.{Two, Three}
 use Rattle.sarif_model.specs.declared.kinds.Level.{Level}
 use Rattle.sarif_model.specs.Level.{level_named}
 use Rattle.sarif_model.specs.Limits.{most_workers}
+use Rattle.sarif_options.specs.declared.options.Options.{Options}
 use Rattle.sarif_options.specs.declared.policy.States.{States}
 use Rattle.sarif_options.specs.declared.upkeep.Knowing.{Knowing}
 use Rattle.sarif_options.specs.declared.upkeep.Knowing.TheVariants.{Adopted, Matched}
@@ -140,6 +143,19 @@ is_set name rows = option_map_or (λ text. bytes_eq text (codes "true")) (first_
 abbrev pub is_given : Text → List Row → Bool
 is_given name rows = is_some (first_of name rows)
 
+-- where the value of an argument comes from, if it has one
+abbrev pub source_of : Text → List Row → Option ValueSource
+source_of name rows =
+    option_and_then (λ row. row.source) (find (λ row. bytes_eq row.id name) rows)
+
+abbrev pub is_from_arguments : Option ValueSource → Bool
+is_from_arguments (Some CommandLine) = true
+is_from_arguments _ = false
+
+-- an option that has a default is given: its value is in the arguments
+abbrev pub is_passed : Text → List Row → Bool
+is_passed name rows = is_from_arguments (source_of name rows)
+
 -- how a new suppression file is made
 pub record Renews (rows : List Row) (how : Renewal) : Type 0 where
   pub accept : how.accept ≡ is_set (codes "accept") rows
@@ -189,12 +205,34 @@ pub record AreGiven (rows : List Row) (given : GivenOptions) : Type 0 where
   pub diff : given.diff ≡ is_given (codes "diff") rows
   pub diff_scope : given.diff_scope ≡ is_given (codes "diff-scope") rows
   pub absent : Some given.absent ≡ option_map (λ states. states.absent) (states_in rows)
+  pub policy : given.policy ≡ is_given (codes "policy") rows
+  pub fail_on : given.fail_on ≡ is_passed (codes "fail-on") rows
+  pub states : given.states ≡ is_passed (codes "states") rows
+  pub max : given.max ≡ is_passed (codes "max") rows
+
+-- how the logs are merged
+pub record SetsOptions (rows : List Row) (options : Options) : Type 0 where
+  pub today : IsReadNumber (one_of (codes "today") rows) options.today
+  pub require_success : options.checks.require_success ≡ is_set (codes "require-success") rows
+  pub allow_external : options.checks.allow_external
+      ≡ is_set (codes "allow-external-properties") rows
+  pub matching : IsVersion (one_of (codes "matching") rows) options.checks.matching
+  pub once : options.checks.once ≡ is_set (codes "once") rows
+  pub ignored : options.checks.ignored ≡ values_of (codes "ignore-fingerprint") rows
+  pub scope : scope_in rows ≡ Some options.checks.scope
+  pub roots : options.checks.roots ≡ values_of (codes "root") rows
+  pub workers : (n : ℕ) × IsReadOr 1 (one_of (codes "workers") rows) n
+      × (options.workers ≡ in_range n)
+  pub fail_on : options.policy.fail_on ≡ fail_on_in rows
+  pub states : states_in rows ≡ Some options.policy.states
+  pub max : IsReadOr default_policy.max (one_of (codes "max") rows) options.policy.max
 
 -- what was found under the arguments' names
 pub record AsksFor (rows : List Row) (request : Request) : Type 0 where
   pub logs : request.logs.items ≡ values_of (codes "log") rows
   pub baselines : request.baselines.items ≡ values_of (codes "baseline") rows
   pub suppress : request.suppress ≡ first_of (codes "suppress") rows
+  pub policy : request.policy ≡ first_of (codes "policy") rows
   pub diff : request.diff ≡ first_of (codes "diff") rows
   pub out : request.out ≡ unwrap_or (first_of (codes "out") rows) []
   pub reports : request.reports.items ≡ reports_in rows
@@ -207,21 +245,7 @@ pub record AsksFor (rows : List Row) (request : Request) : Type 0 where
   pub unused : request.upkeep.unused ≡ is_given (codes "unused") rows
   pub known : request.upkeep.known ≡ known_in rows
   pub choice : request.choice ≡ choice_in rows
-  pub today : IsReadNumber (one_of (codes "today") rows) request.options.today
-  pub require_success : request.options.checks.require_success
-      ≡ is_set (codes "require-success") rows
-  pub allow_external : request.options.checks.allow_external
-      ≡ is_set (codes "allow-external-properties") rows
-  pub matching : IsVersion (one_of (codes "matching") rows) request.options.checks.matching
-  pub once : request.options.checks.once ≡ is_set (codes "once") rows
-  pub ignored : request.options.checks.ignored ≡ values_of (codes "ignore-fingerprint") rows
-  pub scope : scope_in rows ≡ Some request.options.checks.scope
-  pub roots_of_uris : request.options.checks.roots ≡ values_of (codes "root") rows
-  pub workers : (n : ℕ) × IsReadOr 1 (one_of (codes "workers") rows) n
-      × (request.options.workers ≡ in_range n)
-  pub fail_on : request.options.policy.fail_on ≡ fail_on_in rows
-  pub states : states_in rows ≡ Some request.options.policy.states
-  pub max : IsReadOr default_policy.max (one_of (codes "max") rows) request.options.policy.max
+  pub options : SetsOptions rows request.options
 
 -- the names in the arguments
 abbrev pub names_in : List Row → Names
@@ -229,6 +253,7 @@ names_in rows = record {
   logs = values_of (codes "log") rows;
   baselines = values_of (codes "baseline") rows;
   suppress = first_of (codes "suppress") rows;
+  policy = first_of (codes "policy") rows;
   diff = first_of (codes "diff") rows;
   out = unwrap_or (first_of (codes "out") rows) [];
   reports = reports_in rows;
@@ -291,3 +316,14 @@ GivesRequest words (Ok request) = (levels : Bor (List (Bor Text))) × AreLevels 
     × FitUnless None (matches_of (program levels) words)
     × (clash_of (names_in (matches_of (program levels) words)) ≡ None)
 GivesRequest words (Err fault) = IsFaultOf words fault
+
+-- none of the options whose place a policy takes is given
+pub record HasNoGateOption (rows : List Row) : Type 0 where
+  pub fail_on : is_passed (codes "fail-on") rows ≡ false
+  pub states : is_passed (codes "states") rows ≡ false
+  pub max : is_passed (codes "max") rows ≡ false
+  pub diff_scope : is_given (codes "diff-scope") rows ≡ false
+
+abbrev pub HaveNoGateOption : List Text → Type 0
+HaveNoGateOption words = (levels : Bor (List (Bor Text))) × AreLevels levels
+    × HasNoGateOption (matches_of (program levels) words)

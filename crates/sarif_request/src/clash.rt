@@ -22,6 +22,8 @@ pub enum Clash {
     Streams,
     /// An output would overwrite the suppression file.
     Suppressions,
+    /// An output would overwrite the policy.
+    Policy,
     /// An output would overwrite the diff.
     Diff,
     /// Two outputs have the same name.
@@ -58,7 +60,8 @@ impl Clash {
                 "standard input (-) can be only one of the logs and --diff",
             ),
             Clash::Suppressions => suppressions_told(alloc, request),
-            Clash::Diff => diff_told(alloc, request),
+            Clash::Policy => input_file_told(alloc, request, "policy", &request.policy),
+            Clash::Diff => input_file_told(alloc, request, "diff", &request.diff),
             Clash::Outputs => outputs_told(alloc, request),
             Clash::Log => log_told(alloc, request),
             Clash::Inputs => inputs_told(alloc, request),
@@ -128,9 +131,14 @@ fn suppressions_told(alloc: Global, request: &Request) -> Result<String, AllocEr
     format!(in alloc; "--{option} would overwrite the suppression file {name}")
 }
 
-/// Names the first output that would overwrite the diff.
-fn diff_told(alloc: Global, request: &Request) -> Result<String, AllocError> {
-    let name = match &request.diff {
+/// Names the first output that would overwrite the policy or the diff.
+fn input_file_told(
+    alloc: Global,
+    request: &Request,
+    called: &str,
+    file: &Option<Text>,
+) -> Result<String, AllocError> {
+    let name = match file {
         Some(name) => name.as_str(),
         None => "",
     };
@@ -143,7 +151,7 @@ fn diff_told(alloc: Global, request: &Request) -> Result<String, AllocError> {
             }
         }
     }
-    format!(in alloc; "--{option} would overwrite the diff {name}")
+    format!(in alloc; "--{option} would overwrite the {called} {name}")
 }
 
 /// Names the first two outputs with one name.
@@ -241,6 +249,8 @@ fn output_clash(request: &Request) -> Option<Clash>
 {
     if replaces_suppressions(request) {
         Some(Clash::Suppressions)
+    } else if replaces_policy(request) {
+        Some(Clash::Policy)
     } else if replaces_diff(request) {
         Some(Clash::Diff)
     } else if share_a_name(request) {
@@ -263,6 +273,16 @@ fn replaces_suppressions(request: &Request) -> bool
             let name = name.as_str();
             request.out.as_str() == name || one_replaces(name, request.reports.as_slice())
         }
+        None => false,
+    }
+}
+
+/// Returns whether an output has the name of the policy.
+fn replaces_policy(request: &Request) -> bool
+    ensures { result ≡ said.replaces_policy (said.names_of request.now) }
+{
+    match &request.policy {
+        Some(name) => is_output(request, name.as_str()),
         None => false,
     }
 }

@@ -21,7 +21,8 @@ A hit is an active result with a state of --states and a level at or above that 
 By default the states are new and updated. A result is new if it matches no baseline result, updated
 if it differs from the baseline result that it matches, and unchanged if it does not. A baseline
 result that no current result matches is absent. A result is active unless it is suppressed. With
---diff, only results inside the change are hits.";
+--diff, only results inside the change are hits. With --policy, the conditions of a file say which
+results are hits and how many each of them allows.";
 
 const AFTER: &str = "\
 Without arguments, the program reads one log from standard input, and writes the merged log to
@@ -30,13 +31,13 @@ standard output and the summary to standard error.
 No two logs, no two baselines and no two outputs may have the same name. At most one of the logs and
 --diff is standard input. At most one output is standard output. If it is that of --out,
 --suppress-out or --known, the summary goes to standard error. No output may have the name of the
-suppression file, of the diff, of a log or of a baseline. There are three exceptions:
+suppression file, of the policy, of the diff, of a log or of a baseline. There are three exceptions:
 --suppress-out may have the name of --suppress, --known that of the only --baseline, and --out that
 of a --baseline.
 
 Exit status:
   0  the gate passes
-  1  the gate fails: there are more hits than --max allows
+  1  the gate fails: there are more hits than --max or a condition of --policy allows
   2  rejected: invalid arguments, an error in an input, or no memory or thread is left
   3  a file could not be read or written
 

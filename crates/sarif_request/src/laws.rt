@@ -4,7 +4,7 @@ ghost use Rattle.sarif_options.specs.declared.upkeep.Renewal.{Renewal};
 ghost use Rattle.sarif_request.specs.declared.request.Request.{Request};
 ghost use Rattle.sarif_request.specs.Dates.{IsNotPast};
 ghost use Rattle.sarif_request.specs.Terminal.{at_terminal, no_terminal};
-ghost use Rattle.sarif_request.specs.Words.{GivesRequest};
+ghost use Rattle.sarif_request.specs.Words.{GivesRequest, HaveNoGateOption};
 
 /// If the arguments request a new suppression file with an expiry date for the entries that are added, it is a date, and
 /// today's date is known and not after it.
@@ -30,6 +30,12 @@ pub fn requested_renewals_are_sound()
     ensures choosing { (words : List (List ℕ)) (request : Request) → GivesRequest words (Ok request)
         → IfSome request.choice (λ _. (how : Renewal)
         × (request.upkeep.renewal ≡ Some how) × (how.accept ≡ true)) }
+{}
+
+/// If there is a policy, the arguments have none of the options whose place it takes.
+pub fn policies_replace_options()
+    ensures { (words : List (List ℕ)) (request : Request) → GivesRequest words (Ok request)
+        → IfSome request.policy (λ _. HaveNoGateOption words) }
 {}
 
 /// If no standard stream is a terminal, the request that is served is the one that the arguments give, regardless of

@@ -17,7 +17,8 @@ mod wanted;
 mod words;
 
 pub use laws::{
-    expiry_dates_are_not_past, requested_renewals_are_sound, requests_stay_off_a_terminal,
+    expiry_dates_are_not_past, policies_replace_options, requested_renewals_are_sound,
+    requests_stay_off_a_terminal,
 };
 pub use request::Request;
 pub use terminal::{TerminalFacts, at_terminal};

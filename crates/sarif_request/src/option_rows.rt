@@ -80,7 +80,7 @@ pub fn is_date(kind: OptionKind) -> bool {
     kind == DATE
 }
 
-static ROWS: [OptionRow; 29] = [
+static ROWS: [OptionRow; 30] = [
     OptionRow {
         id: "log",
         value: "LOG",
@@ -175,6 +175,15 @@ static ROWS: [OptionRow; 29] = [
         value: "SCOPE",
         help: "What is inside the change of --diff: results on changed lines, or in\n\
             changed files [default: lines] [possible values: lines, files]",
+        group: Group::Gate,
+        kind: OptionKind::Once,
+        default: None,
+    },
+    OptionRow {
+        id: "policy",
+        value: "FILE",
+        help: "JSON file of conditions, each with its own level, states, limit and\n\
+            filters; takes the place of --fail-on, --states and --max",
         group: Group::Gate,
         kind: OptionKind::Once,
         default: None,

@@ -17,6 +17,8 @@ pub struct Request {
     pub baselines: Vec<Text>,
     /// The suppression file.
     pub suppress: Option<Text>,
+    /// The policy: the conditions of the gate, if the options don't say them.
+    pub policy: Option<Text>,
     /// The diff of the change that the gate checks; `-` is standard input.
     pub diff: Option<Text>,
     /// Where the merged log goes; `-` is standard output.

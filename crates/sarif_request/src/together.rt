@@ -37,6 +37,14 @@ pub struct GivenOptions {
     pub diff_scope: bool,
     /// Whether absent results may be hits.
     pub absent: bool,
+    /// The policy.
+    pub policy: bool,
+    /// The minimum level of a hit, if the arguments have it: it has a default.
+    pub fail_on: bool,
+    /// The states of a hit, if the arguments have them: they have a default.
+    pub states: bool,
+    /// How many hits are allowed, if the arguments say it: there is a default.
+    pub max: bool,
 }
 
 /// Why options don't go together.
@@ -74,6 +82,18 @@ pub enum Misfit {
     ScopeNeedsDiff,
     /// No change has an absent result.
     AbsentWithDiff,
+    /// Each condition of a policy has its own level.
+    LevelWithPolicy,
+    /// Each condition of a policy has its own states.
+    StatesWithPolicy,
+    /// Each condition of a policy has its own limit.
+    LimitWithPolicy,
+    /// Each condition of a policy says itself whether it is on the change, and in which scope.
+    ScopeWithPolicy,
+    /// Accepting doesn't know the hits of conditions yet.
+    AcceptWithPolicy,
+    /// A known log doesn't know the hits of conditions yet.
+    KnownWithPolicy,
 }
 
 impl Misfit {
@@ -101,6 +121,18 @@ impl Misfit {
             Misfit::AbsentWithDiff =>
                 "--states with absent and --diff cannot be used together: no change has an absent \
                  result",
+            Misfit::LevelWithPolicy =>
+                "--fail-on and --policy cannot be used together: each condition has its own level",
+            Misfit::StatesWithPolicy =>
+                "--states and --policy cannot be used together: each condition has its own states",
+            Misfit::LimitWithPolicy =>
+                "--max and --policy cannot be used together: each condition has its own max",
+            Misfit::ScopeWithPolicy =>
+                "--diff-scope and --policy cannot be used together: each condition has its own diff",
+            Misfit::AcceptWithPolicy =>
+                "--accept and --policy cannot be used together yet: accepting doesn't know the hits of conditions",
+            Misfit::KnownWithPolicy =>
+                "--known and --policy cannot be used together yet: a known log doesn't know the hits of conditions",
         }
     }
 }
@@ -111,7 +143,35 @@ pub(crate) fn misfit_of(given: &GivenOptions) -> Option<Misfit>
 {
     upkeep_misfit(given)
         .or(until_misfit(given))
-        .or(diff_misfit(given))
+        .or(gate_misfit(given))
+}
+
+/// Returns why the options of the gate or of the change don't go together, or `None` if they do.
+fn gate_misfit(given: &GivenOptions) -> Option<Misfit>
+    ensures { result ≡ said.gate_misfit given.now }
+{
+    policy_misfit(given).or(diff_misfit(given))
+}
+
+/// Returns why options of the gate don't go together with a policy, or `None` if they do.
+fn policy_misfit(given: &GivenOptions) -> Option<Misfit>
+    ensures { result ≡ said.policy_misfit given.now }
+{
+    if given.policy && given.fail_on {
+        Some(Misfit::LevelWithPolicy)
+    } else if given.policy && given.states {
+        Some(Misfit::StatesWithPolicy)
+    } else if given.policy && given.max {
+        Some(Misfit::LimitWithPolicy)
+    } else if given.policy && given.diff_scope {
+        Some(Misfit::ScopeWithPolicy)
+    } else if given.policy && given.accept {
+        Some(Misfit::AcceptWithPolicy)
+    } else if given.policy && given.known {
+        Some(Misfit::KnownWithPolicy)
+    } else {
+        None
+    }
 }
 
 /// Returns why the options of the change don't go together, or `None` if they do.

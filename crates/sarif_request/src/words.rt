@@ -7,7 +7,7 @@ ghost use Rattle.sarif_options.specs.Policy.{default_policy};
 ghost use Rattle.sarif_request.specs.Words.{words_status, ReportsError, IsAsked, AsksFor, GivesRequest};
 ghost use Rattle.sarif_request.specs.Words.{IsReadNumber, IsReadOr, IsUsageOrOutOfMemory, IsVersion};
 ghost use Rattle.sarif_request.specs.Words.{fail_on_in, is_set, link_in, reports_in, scope_in, show_in, states_in};
-ghost use Rattle.sarif_request.specs.Words.{values_of, AreGiven, IsRenewal, is_given, known_in, wanted_if};
+ghost use Rattle.sarif_request.specs.Words.{values_of, AreGiven, IsRenewal, SetsOptions, is_given, known_in, wanted_if};
 ghost use Rattle.sarif_links.specs.Template.{template_of};
 ghost use Rattle.sarif_reports.specs.Report.{report_name};
 ghost use Rattle.sarif_request.specs.Words.{choice_in, choosing_in};
@@ -24,6 +24,7 @@ use crate::together::{GivenOptions, misfit_of};
 use crate::wanted::RequestedOutput;
 use clap::ArgMatches;
 use clap::error::ErrorKind;
+use clap::parser::ValueSource;
 use sarif_change::Scope;
 use sarif_choice::{Choice, Choosing};
 use sarif_evidence::MatchingVersion;
@@ -206,7 +207,6 @@ struct ReadValues {
 }
 
 /// Returns the request. The ranges of the numbers were checked with the arguments.
-#[tactic(auto, using(crate::proofs::Rows::first_in_rows))]
 fn request_of(
     alloc: Global,
     seed: RandomState,
@@ -228,27 +228,19 @@ fn request_of(
     let logs = names_of(alloc, matches, "log")?;
     let baselines = names_of(alloc, matches, "baseline")?;
     let suppress = name_of(alloc, matches, "suppress")?;
+    let policy = name_of(alloc, matches, "policy")?;
     let diff = name_of(alloc, matches, "diff")?;
     let out = text_in(alloc, matches, "out")?;
     let reports = reports_of(alloc, matches)?;
     let roots = names_of(alloc, matches, "root")?;
     let upkeep = upkeep_of(alloc, matches)?;
     let choice = choice_of(alloc, matches)?;
-    let today = number_of(matches, "today");
-    let checks = checks_of(alloc, matches, scope)?;
-    let options = Options {
-        policy: policy_of(matches, states),
-        checks,
-        today,
-        workers: number_of(matches, "workers")
-            .unwrap_or(1)
-            .clamp(1, MOST_WORKERS),
-        seed,
-    };
+    let options = options_of(alloc, seed, matches, states, scope)?;
     Ok(Request {
         logs,
         baselines,
         suppress,
+        policy,
         diff,
         out,
         reports,
@@ -260,6 +252,31 @@ fn request_of(
         upkeep,
         choice,
         options,
+    })
+}
+
+/// Returns how the logs are merged.
+fn options_of(
+    alloc: Global,
+    seed: RandomState,
+    matches: &ArgMatches<'_>,
+    states: States,
+    scope: Scope,
+) -> Result<Options, AllocError>
+    requires listed { states_in (rows_of (found_of matches.now)) ≡ Some states }
+    requires scoped { scope_in (rows_of (found_of matches.now)) ≡ Some scope }
+    ensures { IfOk result (SetsOptions (rows_of (found_of matches.now))) }
+{
+    let today = number_of(matches, "today");
+    let checks = checks_of(alloc, matches, scope)?;
+    Ok(Options {
+        policy: policy_of(matches, states),
+        checks,
+        today,
+        workers: number_of(matches, "workers")
+            .unwrap_or(1)
+            .clamp(1, MOST_WORKERS),
+        seed,
     })
 }
 
@@ -355,6 +372,10 @@ fn given_of(matches: &ArgMatches<'_>, states: States) -> GivenOptions
         diff: is_given(matches, "diff"),
         diff_scope: is_given(matches, "diff-scope"),
         absent: states.absent,
+        policy: is_given(matches, "policy"),
+        fail_on: is_passed(matches, "fail-on"),
+        states: is_passed(matches, "states"),
+        max: is_passed(matches, "max"),
     }
 }
 
@@ -439,6 +460,14 @@ fn is_given(matches: &ArgMatches<'_>, id: &str) -> bool
     ensures { result ≡ is_given id.now (rows_of (found_of matches.now)) }
 {
     matches.get_str(id).is_some()
+}
+
+/// Returns whether an option that has a default is given.
+#[tactic(auto, using(crate::proofs::Rows::source_in_rows))]
+fn is_passed(matches: &ArgMatches<'_>, id: &str) -> bool
+    ensures { result ≡ said.is_passed id.now (rows_of (found_of matches.now)) }
+{
+    matches!(matches.value_source(id), Some(ValueSource::CommandLine))
 }
 
 /// Returns whether an option without a value is given.

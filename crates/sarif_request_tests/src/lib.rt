@@ -7,4 +7,6 @@ mod asking;
 #[cfg(test)]
 mod linking;
 #[cfg(test)]
+mod policies;
+#[cfg(test)]
 mod terminal;

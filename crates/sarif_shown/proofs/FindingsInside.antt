@@ -14,6 +14,7 @@ use Rattle.sarif_model.specs.Run.{results_of, runs_of}
 use Rattle.sarif_options.specs.declared.policy.Policy.{Policy}
 use Rattle.sarif_options.specs.Policy.{is_listed}
 use Rattle.sarif_counts.specs.Hits.{count_if, hits_of}
+use Rattle.sarif_counts.specs.Impacts.{is_hit}
 use Rattle.sarif_counts.specs.Tally.{same_side}
 use Rattle.sarif_counts.specs.CountOf.{carries, count_in, suppresses, suppressions_in}
 use Rattle.sarif_findings.specs.declared.finding.Finding.{Finding}
@@ -154,10 +155,10 @@ shown_hit Hits false = refl
 shown_hit All hit = refl
 
 pub hits_inside : (change : Option GatedChange) (reporting : Reporting) (log : Data)
-    → count_by (λ f. f.hit) (reported_by change reporting log) ≡ hits_by change reporting.policy (runs_of log)
+    → count_by (λ f. is_hit f.impact) (reported_by change reporting log) ≡ hits_by change reporting.policy (runs_of log)
 hits_inside None reporting log = hits_reported reporting log
 hits_inside (Some change) reporting log =
-    counted_in reporting reporting.policy.fail_on (λ f. f.hit)
+    counted_in reporting reporting.policy.fail_on (λ f. is_hit f.impact)
     (λ run result l s. ap (λ b. is_among reporting.show (is_at_least reporting.policy.fail_on l) && b) (finding_hit reporting run result l s)
     ∙ shown_hit reporting.show (is_at_least reporting.policy.fail_on l)) change (runs_of log)
 
@@ -194,12 +195,12 @@ alone_inside (Some change) reporting log =
 
 -- ---- the hits alone
 
-abbrev is_hit : Finding → Bool
-is_hit f = f.hit
+abbrev counts : Finding → Bool
+counts f = is_hit f.impact
 
 abbrev hit_in : Option Finding → Option Finding
 hit_in None = None
-hit_in (Some f) = if f.hit then Some f else None
+hit_in (Some f) = if counts f then Some f else None
 
 added : (b : Bool) (f : Finding) (fs : List Finding) → cons_option (if b then Some f else None) fs ≡ (if b then f ∷ fs else fs)
 added true f fs = refl
@@ -216,7 +217,7 @@ module _ (reporting : Reporting) where
   unfolding finding_of
   same_finding run result l s = refl
 
-  chosen : (listed hit active : Bool) (f : Finding) → f.hit ≡ hit
+  chosen : (listed hit active : Bool) (f : Finding) → counts f ≡ hit
       → (if (listed && hit) && active then Some f else None) ≡ hit_in (if (listed && true) && active then Some f else None)
   chosen false hit active f e = refl
   chosen true true true f e = sym (ap (λ b. if b then Some f else None) e)
@@ -233,11 +234,11 @@ module _ (reporting : Reporting) where
       ap (λ f. if (listed && hit) && is_active result then Some f else None) (same_finding run result l s)
       ∙ chosen listed hit (is_active result) (finding_of with_all run result l s) (finding_hit with_all run result l s)
 
-  next : (o : Option Finding) (fs : List Finding) → cons_option (hit_in o) (filter is_hit fs) ≡ filter is_hit (cons_option o fs)
+  next : (o : Option Finding) (fs : List Finding) → cons_option (hit_in o) (filter counts fs) ≡ filter counts (cons_option o fs)
   next None fs = refl
-  next (Some f) fs = added f.hit f (filter is_hit fs)
+  next (Some f) fs = added (counts f) f (filter counts fs)
 
-  of_results : (run : Data) (results : List Data) → filter_map (finding_if alone run) results ≡ filter is_hit (filter_map (finding_if with_all run) results)
+  of_results : (run : Data) (results : List Data) → filter_map (finding_if alone run) results ≡ filter counts (filter_map (finding_if with_all run) results)
   of_results run [] = refl
   of_results run (result ∷ results) =
       ap (λ o. cons_option o (filter_map (finding_if alone run) results)) (by run result (level_in result) (state_in result))
@@ -245,13 +246,13 @@ module _ (reporting : Reporting) where
       ∙ next (finding_if with_all run result) (filter_map (finding_if with_all run) results)
 
   of_runs : (change : GatedChange) (runs : List Data)
-      → flat_map (reported_inside change alone) runs ≡ filter is_hit (flat_map (reported_inside change with_all) runs)
+      → flat_map (reported_inside change alone) runs ≡ filter counts (flat_map (reported_inside change with_all) runs)
   of_runs change [] = refl
   of_runs change (run ∷ runs) =
       ap (λ fs. fs ++ flat_map (reported_inside change alone) runs) (of_results run (results_inside change run))
-      ∙ ap (λ fs. filter is_hit (reported_inside change with_all run) ++ fs) (of_runs change runs)
-      ∙ sym (filter-append is_hit (reported_inside change with_all run) (flat_map (reported_inside change with_all) runs))
+      ∙ ap (λ fs. filter counts (reported_inside change with_all run) ++ fs) (of_runs change runs)
+      ∙ sym (filter-append counts (reported_inside change with_all run) (flat_map (reported_inside change with_all) runs))
 
-  pub filtered_inside : (change : Option GatedChange) (log : Data) → reported_by change alone log ≡ filter (λ f. f.hit) (reported_by change with_all log)
+  pub filtered_inside : (change : Option GatedChange) (log : Data) → reported_by change alone log ≡ filter (λ f. is_hit f.impact) (reported_by change with_all log)
   filtered_inside None log = hits_filtered reporting log
   filtered_inside (Some change) log = of_runs change (runs_of log)

@@ -1,5 +1,6 @@
 pub mod AddressSigns
 pub mod AzureApart
+pub mod EndingShort
 pub mod EscapedApart
 pub mod EscapedMore
 pub mod FindingsInside
@@ -8,7 +9,9 @@ pub mod LinesMore
 pub mod LinksApart
 pub mod ListedMore
 pub mod ListedSorted
+pub mod OptionsListed
 pub mod PathsApart
+pub mod PolicyCounted
 pub mod SeenTexts
 pub mod ShownCounted
 pub mod TerminalApart

@@ -1,15 +1,17 @@
 -- The listed results are sorted, and those of one level are in the order of the log.
-use Rattle.std.proofs.Common.{◌≡◌, ◌==◌, ◌≤◌, ◌-◌, ◌++◌, ℕ, suc, Bool, true, false, not, ◌&&◌, cond, List, [], ◌∷◌, AllPairs, get_or, ap, ap₂, sym, refl, ◌∙◌, append-nil, arith}
+use Rattle.std.proofs.Common.{◌≡◌, ◌==◌, ◌≤◌, ◌+◌, ◌*◌, ◌-◌, ◌++◌, ℕ, suc, Bool, true, false, ◌&&◌, cond, List, [], ◌∷◌, AllPairs, get_or, ap, ap₂, sym, refl, ◌∙◌, append-nil, arith}
 use Rattle.std.specs.List.{All, filter}
 use mathlib.Core.Bool.{and-false}
-use Rattle.std.proofs.lemmas.Bool.{and_parts, eqb-true, false_from_ne_true, not-true, true≢false}
+use Rattle.std.proofs.lemmas.Bool.{and_parts, eqb-true, false_from_ne_true, true≢false}
 use Rattle.std.proofs.lemmas.List.Elements.{All-append, All-filter, filter-append, filter_passes}
 use Rattle.std.proofs.lemmas.List.Kept.{AllPairs-cons}
 use Rattle.sarif_model.specs.declared.kinds.Level.{Level}
 use Rattle.sarif_model.specs.declared.kinds.Level.TheVariants.{NoLevel, Note, Warning, Error}
 use Rattle.sarif_model.specs.Level.{severity}
+use Rattle.sarif_counts.specs.declared.gate_verdict.Impact.{Impact}
+use Rattle.sarif_counts.specs.declared.gate_verdict.Impact.TheVariants as impacts
 use Rattle.sarif_findings.specs.declared.finding.Finding.{Finding}
-use Rattle.sarif_shown.specs.Listed.{by_level, hits_among, is_one, listed, of_level, others_among}
+use Rattle.sarif_shown.specs.Listed.{by_level, does, doing, hits_among, listed, of_level, others_among, weight}
 use Rattle.sarif_shown.specs.ListedLaws.{MayPrecede, of_standing}
 
 -- ---- the order within a level
@@ -32,17 +34,17 @@ none_kept p q h (f ∷ fs) = by (q f) refl (none_kept p q h fs)
     by true e rest = ap (λ b. cond b (f ∷ filter p (filter q fs)) (filter p (filter q fs))) (h f e) ∙ rest
     by false e rest = rest
 
-abbrev stands : Bool → Level → Finding → Bool
-stands hit l f = is_one hit f && severity f.level == severity l
+abbrev stands : Impact → Level → Finding → Bool
+stands i l f = does i f && severity f.level == severity l
 
-own_level : (hit : Bool) (l : Level) (fs : List Finding) → filter (stands hit l) (of_level l fs) ≡ filter (stands hit l) fs
-own_level hit l fs =
-    same_kept (stands hit l) (λ f. severity f.level == severity l) (λ f e. (and_parts (is_one hit f) (severity f.level == severity l) e).1) fs
+own_level : (i : Impact) (l : Level) (fs : List Finding) → filter (stands i l) (of_level l fs) ≡ filter (stands i l) fs
+own_level i l fs =
+    same_kept (stands i l) (λ f. severity f.level == severity l) (λ f e. (and_parts (does i f) (severity f.level == severity l) e).1) fs
 
-other_level : (hit : Bool) (l k : Level) (fs : List Finding) → (severity k == severity l) ≡ false → filter (stands hit l) (of_level k fs) ≡ []
-other_level hit l k fs apart =
-    none_kept (stands hit l) (λ f. severity f.level == severity k)
-    (λ f e. ap (λ b. is_one hit f && b) (ap (λ n. n == severity l) (eqb-true (severity f.level) (severity k) e) ∙ apart) ∙ and-false (is_one hit f)) fs
+other_level : (i : Impact) (l k : Level) (fs : List Finding) → (severity k == severity l) ≡ false → filter (stands i l) (of_level k fs) ≡ []
+other_level i l k fs apart =
+    none_kept (stands i l) (λ f. severity f.level == severity k)
+    (λ f e. ap (λ b. does i f && b) (ap (λ n. n == severity l) (eqb-true (severity f.level) (severity k) e) ∙ apart) ∙ and-false (does i f)) fs
 
 four_kept : (p : Finding → Bool) (a b c d e f g h : List Finding) → filter p a ≡ e → filter p b ≡ f → filter p c ≡ g → filter p d ≡ h
     → filter p (a ++ (b ++ (c ++ d))) ≡ e ++ (f ++ (g ++ h))
@@ -50,46 +52,64 @@ four_kept p a b c d e f g h ae bf cg dh =
     filter-append p a (b ++ (c ++ d))
     ∙ ap₂ (λ x y. x ++ y) ae (filter-append p b (c ++ d) ∙ ap₂ (λ x y. x ++ y) bf (filter-append p c d ∙ ap₂ (λ x y. x ++ y) cg dh))
 
-level_kept : (hit : Bool) (l : Level) (fs : List Finding) → filter (stands hit l) (by_level fs) ≡ filter (stands hit l) fs
+level_kept : (i : Impact) (l : Level) (fs : List Finding) → filter (stands i l) (by_level fs) ≡ filter (stands i l) fs
 unfolding by_level
-level_kept hit Error fs =
-    four_kept (stands hit Error) _ _ _ _ _ _ _ _ (own_level hit Error fs) (other_level hit Error Warning fs refl)
-    (other_level hit Error Note fs refl) (other_level hit Error NoLevel fs refl)
-    ∙ append-nil (filter (stands hit Error) fs)
-level_kept hit Warning fs =
-    four_kept (stands hit Warning) _ _ _ _ _ _ _ _ (other_level hit Warning Error fs refl) (own_level hit Warning fs)
-    (other_level hit Warning Note fs refl) (other_level hit Warning NoLevel fs refl)
-    ∙ append-nil (filter (stands hit Warning) fs)
-level_kept hit Note fs =
-    four_kept (stands hit Note) _ _ _ _ _ _ _ _ (other_level hit Note Error fs refl) (other_level hit Note Warning fs refl)
-    (own_level hit Note fs) (other_level hit Note NoLevel fs refl)
-    ∙ append-nil (filter (stands hit Note) fs)
-level_kept hit NoLevel fs =
-    four_kept (stands hit NoLevel) _ _ _ _ _ _ _ _ (other_level hit NoLevel Error fs refl) (other_level hit NoLevel Warning fs refl)
-    (other_level hit NoLevel Note fs refl) (own_level hit NoLevel fs)
+level_kept i Error fs =
+    four_kept (stands i Error) _ _ _ _ _ _ _ _ (own_level i Error fs) (other_level i Error Warning fs refl)
+    (other_level i Error Note fs refl) (other_level i Error NoLevel fs refl)
+    ∙ append-nil (filter (stands i Error) fs)
+level_kept i Warning fs =
+    four_kept (stands i Warning) _ _ _ _ _ _ _ _ (other_level i Warning Error fs refl) (own_level i Warning fs)
+    (other_level i Warning Note fs refl) (other_level i Warning NoLevel fs refl)
+    ∙ append-nil (filter (stands i Warning) fs)
+level_kept i Note fs =
+    four_kept (stands i Note) _ _ _ _ _ _ _ _ (other_level i Note Error fs refl) (other_level i Note Warning fs refl)
+    (own_level i Note fs) (other_level i Note NoLevel fs refl)
+    ∙ append-nil (filter (stands i Note) fs)
+level_kept i NoLevel fs =
+    four_kept (stands i NoLevel) _ _ _ _ _ _ _ _ (other_level i NoLevel Error fs refl) (other_level i NoLevel Warning fs refl)
+    (other_level i NoLevel Note fs refl) (own_level i NoLevel fs)
 
-pub standing_kept : (hit : Bool) (l : Level) (fs : List Finding) → of_standing hit l (listed fs) ≡ of_standing hit l fs
-standing_kept true l fs =
-    let hits = filter (is_one true) fs in
-    let others = filter (is_one false) fs in
-    filter-append (stands true l) (by_level hits) (by_level others)
-    ∙ ap₂ (λ x y. x ++ y)
-    (level_kept true l hits ∙ same_kept (stands true l) (is_one true) (λ f e. (and_parts f.hit (severity f.level == severity l) e).0) fs)
-    (level_kept true l others ∙ none_kept (stands true l) (is_one false) (λ f e. ap (λ b. b && severity f.level == severity l) (not-true f.hit e)) fs)
-    ∙ append-nil (filter (stands true l) fs)
-standing_kept false l fs =
-    let hits = filter (is_one true) fs in
-    let others = filter (is_one false) fs in
-    filter-append (stands false l) (by_level hits) (by_level others)
-    ∙ ap₂ (λ x y. x ++ y)
-    (level_kept false l hits ∙ none_kept (stands false l) (is_one true) (λ f e. ap (λ b. not b && severity f.level == severity l) e) fs)
-    (level_kept false l others ∙ same_kept (stands false l) (is_one false) (λ f e. (and_parts (not f.hit) (severity f.level == severity l) e).0) fs)
+kept_own : (i : Impact) (l : Level) (fs : List Finding) → filter (stands i l) (by_level (doing i fs)) ≡ filter (stands i l) fs
+kept_own i l fs =
+    level_kept i l (doing i fs) ∙ same_kept (stands i l) (does i) (λ f e. (and_parts (does i f) (severity f.level == severity l) e).0) fs
+
+kept_apart : (i j : Impact) (l : Level) (fs : List Finding) → (weight j == weight i) ≡ false → filter (stands i l) (by_level (doing j fs)) ≡ []
+kept_apart i j l fs apart =
+    level_kept i l (doing j fs)
+    ∙ none_kept (stands i l) (does j)
+    (λ f e. ap (λ b. b && severity f.level == severity l) (ap (λ n. n == weight i) (eqb-true (weight f.impact) (weight j) e) ∙ apart)) fs
+
+three_kept : (p : Finding → Bool) (a b c d e f : List Finding) → filter p a ≡ d → filter p b ≡ e → filter p c ≡ f
+    → filter p ((a ++ b) ++ c) ≡ (d ++ e) ++ f
+three_kept p a b c d e f ad be cf =
+    filter-append p (a ++ b) c ∙ ap₂ (λ x y. x ++ y) (filter-append p a b ∙ ap₂ (λ x y. x ++ y) ad be) cf
+
+pub standing_kept : (i : Impact) (l : Level) (fs : List Finding) → of_standing i l (listed fs) ≡ of_standing i l fs
+standing_kept impacts.Stops l fs =
+    let own : List Finding = filter (stands impacts.Stops l) fs in
+    three_kept (stands impacts.Stops l) (by_level (doing impacts.Stops fs)) (by_level (doing impacts.Hit fs)) (others_among fs) _ _ _
+    (kept_own impacts.Stops l fs) (kept_apart impacts.Stops impacts.Hit l fs refl)
+    (kept_apart impacts.Stops impacts.None l fs refl)
+    ∙ append-nil (own ++ []) ∙ append-nil own
+standing_kept impacts.Hit l fs =
+    three_kept (stands impacts.Hit l) (by_level (doing impacts.Stops fs)) (by_level (doing impacts.Hit fs)) (others_among fs) _ _ _
+    (kept_apart impacts.Hit impacts.Stops l fs refl) (kept_own impacts.Hit l fs)
+    (kept_apart impacts.Hit impacts.None l fs refl)
+    ∙ append-nil (filter (stands impacts.Hit l) fs)
+standing_kept impacts.None l fs =
+    three_kept (stands impacts.None l) (by_level (doing impacts.Stops fs)) (by_level (doing impacts.Hit fs)) (others_among fs) _ _ _
+    (kept_apart impacts.None impacts.Stops l fs refl)
+    (kept_apart impacts.None impacts.Hit l fs refl) (kept_own impacts.None l fs)
 
 -- ---- no milder result before a worse one
 
--- the position of a result among hits and others of each level
+-- the position of a result by what it does to the gate and its level
+abbrev rank_at : ℕ → ℕ → ℕ
+rank_at weight severity = 4 * (2 - weight) + (3 - severity)
+
 abbrev rank : Finding → ℕ
-rank f = cond f.hit (3 - severity f.level) (7 - severity f.level)
+rank f = rank_at (weight f.impact) (severity f.level)
 
 abbrev Rising : Finding → Finding → Type 0
 Rising f g = rank f ≤ rank g
@@ -122,43 +142,31 @@ joined a b c d xs ys ac bc bd first second = record {
   most = All-append (λ f. rank f ≤ d) xs ys (λ k e within. let one = first.most k e within in omega (arith, one, bd)) second.most;
 }
 
-rank_is : (f : Finding) (hit : Bool) (l : Level) → f.hit ≡ hit → (severity f.level == severity l) ≡ true
-    → rank f ≡ cond hit (3 - severity l) (7 - severity l)
-rank_is f hit l e at =
-    ap (λ b. cond b (3 - severity f.level) (7 - severity f.level)) e
-    ∙ ap (λ n. cond hit (3 - n) (7 - n)) (eqb-true (severity f.level) (severity l) at)
+rank_is : (f : Finding) (i : Impact) (l : Level) (n : ℕ) → does i f ≡ true → (severity f.level == severity l) ≡ true
+    → rank_at (weight i) (severity l) ≡ n → rank f ≡ n
+rank_is f i l n same at is =
+    ap₂ rank_at (eqb-true (weight f.impact) (weight i) same) (eqb-true (severity f.level) (severity l) at) ∙ is
 
-hit_ranks : (l : Level) (fs : List Finding) → All (λ f. rank f ≡ 3 - severity l) (of_level l (filter (is_one true) fs))
-hit_ranks l fs k d within =
-    let hits = filter (is_one true) fs in
-    let at = filter_passes (λ f. severity f.level == severity l) hits k d within in
-    let hit = All-filter (λ f. severity f.level == severity l) (λ f. is_one true f ≡ true) hits (filter_passes (is_one true) fs) k d within in
-    rank_is (get_or (of_level l hits) k d) true l hit at
+ranks : (i : Impact) (l : Level) (n : ℕ) (fs : List Finding) → rank_at (weight i) (severity l) ≡ n
+    → All (λ f. rank f ≡ n) (of_level l (doing i fs))
+ranks i l n fs is k d within =
+    let part : List Finding = doing i fs in
+    let at = filter_passes (λ f. severity f.level == severity l) part k d within in
+    let same = All-filter (λ f. severity f.level == severity l) (λ f. does i f ≡ true) part (filter_passes (does i) fs) k d within in
+    rank_is (get_or (of_level l part) k d) i l n same at is
 
-other_ranks : (l : Level) (fs : List Finding) → All (λ f. rank f ≡ 7 - severity l) (of_level l (filter (is_one false) fs))
-other_ranks l fs k d within =
-    let others = filter (is_one false) fs in
-    let at = filter_passes (λ f. severity f.level == severity l) others k d within in
-    let other = All-filter (λ f. severity f.level == severity l) (λ f. is_one false f ≡ true) others (filter_passes (is_one false) fs) k d within in
-    rank_is (get_or (of_level l others) k d) false l (not-true (get_or (of_level l others) k d).hit other) at
-
-hits_rise : (fs : List Finding) → Rises 0 3 (hits_among fs)
+part_rises : (i : Impact) (n : ℕ) (fs : List Finding) → rank_at (weight i) 3 ≡ n → rank_at (weight i) 2 ≡ n + 1
+    → rank_at (weight i) 1 ≡ n + 2 → rank_at (weight i) 0 ≡ n + 3 → Rises n (n + 3) (by_level (doing i fs))
 unfolding by_level
-hits_rise fs =
-    let hits = filter (is_one true) fs in
-    joined 0 0 1 3 (of_level Error hits) _ (omega arith) (omega arith) (omega arith) (level_rises 0 _ (hit_ranks Error fs))
-    (joined 1 1 2 3 (of_level Warning hits) _ (omega arith) (omega arith) (omega arith) (level_rises 1 _ (hit_ranks Warning fs))
-    (joined 2 2 3 3 (of_level Note hits) _ (omega arith) (omega arith) (omega arith) (level_rises 2 _ (hit_ranks Note fs))
-    (level_rises 3 _ (hit_ranks NoLevel fs))))
-
-others_rise : (fs : List Finding) → Rises 4 7 (others_among fs)
-unfolding by_level
-others_rise fs =
-    let others = filter (is_one false) fs in
-    joined 4 4 5 7 (of_level Error others) _ (omega arith) (omega arith) (omega arith) (level_rises 4 _ (other_ranks Error fs))
-    (joined 5 5 6 7 (of_level Warning others) _ (omega arith) (omega arith) (omega arith) (level_rises 5 _ (other_ranks Warning fs))
-    (joined 6 6 7 7 (of_level Note others) _ (omega arith) (omega arith) (omega arith) (level_rises 6 _ (other_ranks Note fs))
-    (level_rises 7 _ (other_ranks NoLevel fs))))
+part_rises i n fs error warning note none =
+    let part : List Finding = doing i fs in
+    joined n n (n + 1) (n + 3) (of_level Error part) _ (omega arith) (omega arith) (omega arith)
+    (level_rises n (of_level Error part) (ranks i Error n fs error))
+    (joined (n + 1) (n + 1) (n + 2) (n + 3) (of_level Warning part) _ (omega arith) (omega arith) (omega arith)
+    (level_rises (n + 1) (of_level Warning part) (ranks i Warning (n + 1) fs warning))
+    (joined (n + 2) (n + 2) (n + 3) (n + 3) (of_level Note part) (of_level NoLevel part) (omega arith) (omega arith) (omega arith)
+    (level_rises (n + 2) (of_level Note part) (ranks i Note (n + 2) fs note))
+    (level_rises (n + 3) (of_level NoLevel part) (ranks i NoLevel (n + 3) fs none))))
 
 severity_small : (l : Level) → severity l ≤ 3
 severity_small NoLevel = omega arith
@@ -166,19 +174,27 @@ severity_small Note = omega arith
 severity_small Warning = omega arith
 severity_small Error = omega arith
 
-precedes_by : (a b : Bool) (m n : ℕ) → m ≤ 3 → n ≤ 3 → cond a (3 - m) (7 - m) ≤ cond b (3 - n) (7 - n)
-    → (b ≡ true → a ≡ true) × (a ≡ b → n ≤ m)
-precedes_by true true m n small less h = (λ e. refl, λ e. omega (arith, small, less, h))
-precedes_by true false m n small less h = (λ e. refl, λ e. absurd (true≢false e))
-precedes_by false true m n small less h = absurd (omega (arith, small, less, h))
-precedes_by false false m n small less h = (λ e. e, λ e. omega (arith, small, less, h))
+weight_small : (i : Impact) → weight i ≤ 2
+weight_small impacts.Stops = omega arith
+weight_small impacts.Hit = omega arith
+weight_small impacts.None = omega arith
+
+precedes_by : (u v m n : ℕ) → u ≤ 2 → v ≤ 2 → m ≤ 3 → n ≤ 3 → 4 * (2 - u) + (3 - m) ≤ 4 * (2 - v) + (3 - n)
+    → (v ≤ u) × (u ≡ v → n ≤ m)
+precedes_by u v m n a b c d h = (omega (arith, a, b, c, d, h), λ e. omega (arith, a, b, c, d, h, e))
 
 precedes : (f g : Finding) → rank f ≤ rank g → MayPrecede f g
 precedes f g h =
-    let both = precedes_by f.hit g.hit (severity f.level) (severity g.level) (severity_small f.level) (severity_small g.level) h in
-    record { hit = both.0; level = both.1 }
+    let both = precedes_by (weight f.impact) (weight g.impact) (severity f.level) (severity g.level) (weight_small f.impact) (weight_small g.impact)
+    (severity_small f.level) (severity_small g.level) h in
+    record { impact = both.0; level = both.1 }
 
 pub listed_sorted : (fs : List Finding) → AllPairs MayPrecede (listed fs)
 listed_sorted fs i j d lt within =
-    let rises = joined 0 3 4 7 (hits_among fs) (others_among fs) (omega arith) (omega arith) (omega arith) (hits_rise fs) (others_rise fs) in
+    let stops = part_rises impacts.Stops 0 fs refl refl refl refl in
+    let hits = part_rises impacts.Hit 4 fs refl refl refl refl in
+    let others = part_rises impacts.None 8 fs refl refl refl refl in
+    let rises =
+    joined 0 7 8 11 (hits_among fs) (others_among fs) (omega arith) (omega arith) (omega arith)
+    (joined 0 3 4 7 (by_level (doing impacts.Stops fs)) (by_level (doing impacts.Hit fs)) (omega arith) (omega arith) (omega arith) stops hits) others in
     precedes (get_or (listed fs) i d) (get_or (listed fs) j d) (rises.pairs i j d lt within)

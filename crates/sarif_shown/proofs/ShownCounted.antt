@@ -4,6 +4,7 @@ use Rattle.std.proofs.lemmas.List.Filters.{length-filter_both}
 use Rattle.serde_json.specs.Data.{Data}
 use Rattle.sarif_model.specs.Run.{runs_of}
 use Rattle.sarif_counts.specs.CountOf.{count_of}
+use Rattle.sarif_counts.specs.Impacts.{is_hit}
 use Rattle.sarif_findings.specs.declared.finding.Finding.{Finding}
 use Rattle.sarif_findings.specs.declared.reporting.Reporting.{Reporting}
 use Rattle.sarif_findings.specs.declared.reporting.Show.{Show}
@@ -22,7 +23,7 @@ few_hits : (change : Option GatedChange) (reporting : Reporting) (log : Data)
     → length (reported_by change (record reporting { show = Hits }) log) ≤ length (reported_by change (record reporting { show = All }) log)
 few_hits change reporting log =
     let all : List Finding = reported_by change (record reporting { show = All }) log in
-    let parted = length-filter_both (λ f. f.hit) (λ f. not f.hit) (λ f. refl) all in
+    let parted = length-filter_both (λ f. is_hit f.impact) (λ f. not (is_hit f.impact)) (λ f. refl) all in
     let same = ap (λ (fs : List Finding). length fs) (filtered_inside reporting change log) in
     omega (arith, parted, same)
 

@@ -1,5 +1,6 @@
 -- What reports are made from.
 use Rattle.std.specs.Prelude.{ℕ, List, Option, option_map}
+use Rattle.sarif_conditions.specs.declared.facts.PolicyFacts.{PolicyFacts}
 use Rattle.sarif_counts.specs.declared.life.Life.{Life}
 use Rattle.sarif_options.specs.declared.policy.Policy.{Policy}
 use Rattle.sarif_counts.specs.Counts.{count_at}
@@ -29,6 +30,8 @@ pub record Facts : Type 0 where
   pub life : Option Life
   -- what the gate says about a change, if it checks one
   pub change : Option ChangeFacts
+  -- what the conditions of the gate's policy decide, if it has one
+  pub ruling : Option PolicyFacts
 
 -- what a report receives
 abbrev pub facts_of : ReportInput → Facts
@@ -42,4 +45,5 @@ facts_of told = record {
   unused = told.unused;
   life = option_map (λ life. life.now) told.life;
   change = told.change;
+  ruling = option_map (λ ruling. ruling.now) told.ruling;
 }

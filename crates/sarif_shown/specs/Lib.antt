@@ -1,5 +1,6 @@
 pub mod AzureLaws
 pub mod AzureReport
+pub mod ConditionRow
 pub mod CountRow
 pub mod Escaped
 pub mod EscapedLaws
@@ -11,8 +12,11 @@ pub mod Internal
 pub mod Linked
 pub mod Listed
 pub mod ListedLaws
+pub mod PolicyLaws
 pub mod ReportedInside
+pub mod Ruled
 pub mod Sentences
+pub mod Stopping
 pub mod TerminalLaws
 pub mod TerminalReport
 pub mod TextLaws

@@ -17,9 +17,15 @@ abbrev pub gate_end : ℕ → ℕ → List ℕ
 gate_end hits max =
     codes ", " ++ (hits_text hits ++ (codes ", " ++ (decimal max ++ codes " allowed")))
 
--- Gate: VERDICT, N hits, MAX allowed
-abbrev pub gate_text : Verdict → ℕ → ℕ → List ℕ
-gate_text verdict hits max = codes "Gate: " ++ (verdict_name verdict ++ gate_end hits max)
+-- what follows the verdict of conditions: N hits, F of C conditions failed
+abbrev pub conditions_end : ℕ → ℕ → ℕ → List ℕ
+conditions_end hits failed all =
+    codes ", " ++ (hits_text hits ++ (codes ", " ++ (decimal failed ++ (codes " of "
+    ++ counted all (codes " condition failed") (codes " conditions failed")))))
+
+-- Gate: VERDICT, and what follows it
+abbrev pub gate_text : Verdict → List ℕ → List ℕ
+gate_text verdict end = codes "Gate: " ++ (verdict_name verdict ++ end)
 
 -- results without a row, all of them hits
 abbrev pub more_hits : ℕ → List ℕ
@@ -92,3 +98,14 @@ abbrev pub outside_text : ℕ → List ℕ
 outside_text n =
     counted n (codes " result outside the change would be a hit.")
     (codes " results outside the change would be hits.")
+
+-- how many filters of a policy match no current result
+abbrev pub filters_text : ℕ → List ℕ
+filters_text n =
+    counted n (codes " filter of the policy matches nothing.")
+    (codes " filters of the policy match nothing.")
+
+-- how many active current results no condition of a policy checks
+abbrev pub unchecked_text : ℕ → List ℕ
+unchecked_text n =
+    codes "No condition checks " ++ counted n (codes " active result.") (codes " active results.")

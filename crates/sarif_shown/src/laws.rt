@@ -1,7 +1,7 @@
 //! Laws of what reports show, and of the reports of one line per result. Each law is the contract of a function that
 //! does nothing. A log may be hostile, so the laws cover any strings. Without a change they are on all results of the
 //! log that are shown, and with one on those inside of it.
-ghost use Rattle.std.specs.Prelude.{◌≡◌, ◌==◌, ◌++◌, ◌+◌, ◌-◌, ℕ, Bool, List, Option, AllPairs, IsPermutation, true, false};
+ghost use Rattle.std.specs.Prelude.{◌≡◌, ◌==◌, ◌++◌, ◌+◌, ◌-◌, ℕ, List, Option, AllPairs, IsPermutation, not, true, false};
 ghost use Rattle.std.specs.Prelude.{codes, drop, flat_map, length, nat_eq, take};
 ghost use Rattle.std.specs.List.{AllByRecursion, count_by, filter, list_all, starts_with};
 ghost use Rattle.std.specs.List as list;
@@ -9,6 +9,8 @@ ghost use Rattle.serde_json.specs.Data.{Data};
 ghost use Rattle.sarif_model.specs.declared.kinds.Level.{Level};
 ghost use Rattle.sarif_model.specs.Run.{runs_of};
 ghost use Rattle.sarif_counts.specs.CountOf.{count_of};
+ghost use Rattle.sarif_counts.specs.Impacts.{is_hit};
+ghost use Rattle.sarif_counts.specs.declared.gate_verdict.Impact.{Impact};
 ghost use Rattle.sarif_findings.specs.declared.finding.Finding.{Finding};
 ghost use Rattle.sarif_shown.specs.declared.escaping.Escaping.TheVariants.{IssueProperty};
 ghost use Rattle.sarif_shown.specs.AzureLaws.{AreIssues, is_within_property, properties_of, properties_read};
@@ -18,7 +20,7 @@ ghost use Rattle.sarif_shown.specs.GithubLaws.{are_commands};
 ghost use Rattle.sarif_shown.specs.FindingLaws.{HasAddress, IsNamed, has_target};
 ghost use Rattle.sarif_links.specs.Address.{has_two_signs, is_address, is_address_sign};
 ghost use Rattle.sarif_shown.specs.GithubReport.{github_line, github_of};
-ghost use Rattle.sarif_shown.specs.Listed.{hits_among, listed, others_among};
+ghost use Rattle.sarif_shown.specs.Listed.{by_level, hits_among, listed, others_among};
 ghost use Rattle.sarif_shown.specs.ListedLaws.{MayPrecede, of_standing};
 ghost use Rattle.sarif_findings.specs.Links.{unlinked};
 ghost use Rattle.sarif_findings.specs.declared.reporting.Reporting.{Reporting};
@@ -52,7 +54,7 @@ pub fn shown_signs_stand_apart()
 pub fn shown_results_are_counted()
     ensures shown { (change : Option GatedChange) (reporting : Reporting) (log : Data) →
         reported_by change (record reporting { show = Hits }) log
-        ≡ filter (λ f. f.hit) (reported_by change (record reporting { show = All }) log) }
+        ≡ filter (λ f. is_hit f.impact) (reported_by change (record reporting { show = All }) log) }
     ensures hits { (change : Option GatedChange) (reporting : Reporting) (log : Data) →
         length (reported_by change (record reporting { show = Hits }) log)
         ≡ hits_by change reporting.policy (runs_of log) }
@@ -66,7 +68,7 @@ pub fn shown_results_are_counted()
 /// The number of hits among the shown results of a merged log is the number that the gate counts.
 pub fn reported_hits_are_counted()
     ensures { (change : Option GatedChange) (reporting : Reporting) (log : Data) →
-        count_by (λ f. f.hit) (reported_by change reporting log)
+        count_by (λ f. is_hit f.impact) (reported_by change reporting log)
         ≡ hits_by change reporting.policy (runs_of log) }
 {}
 
@@ -92,14 +94,14 @@ pub fn rules_link_to_addresses()
         → starts_with nat_eq text (codes "http") ≡ true }
 {}
 
-/// Reports list each shown result once: a hit before every other result, and among the hits and among the others
-/// none before a worse one. Those of one level stay in the order of the merged log. The first of them are the hits, as
-/// many as the gate counts.
+/// Reports list each shown result once: first the hits that stop the change, then the other hits, then the other results,
+/// and in each of these three none before a worse one. Those of one level stay in the order of the merged log. Without a
+/// policy the first of them are the hits, as many as the gate counts.
 pub fn listed_results_are_sorted()
     ensures once { (findings : List Finding) → IsPermutation findings (listed findings) }
     ensures sorted { (findings : List Finding) → AllPairs MayPrecede (listed findings) }
-    ensures stable { (hit : Bool) (level : Level) (findings : List Finding) →
-        of_standing hit level (listed findings) ≡ of_standing hit level findings }
+    ensures stable { (impact : Impact) (level : Level) (findings : List Finding) →
+        of_standing impact level (listed findings) ≡ of_standing impact level findings }
     ensures hits { (change : Option GatedChange) (reporting : Reporting) (log : Data) →
         take (hits_by change reporting.policy (runs_of log))
         (listed (reported_by change reporting log)) ≡ hits_among (reported_by change reporting log) }
@@ -107,6 +109,16 @@ pub fn listed_results_are_sorted()
         drop (hits_by change reporting.policy (runs_of log))
         (listed (reported_by change reporting log)) ≡ others_among (reported_by change reporting log) }
     ensures length { (findings : List Finding) → length (listed findings) ≡ length findings }
+{}
+
+/// Without a policy the hits are listed by level alone, since the impact of none says that it stops the change. The other
+/// results are listed by level with a policy too.
+pub fn hits_of_the_options_are_listed_by_level()
+    ensures hits { (change : Option GatedChange) (reporting : Reporting) (log : Data) →
+        hits_among (reported_by change reporting log)
+        ≡ by_level (filter (λ f. is_hit f.impact) (reported_by change reporting log)) }
+    ensures others { (findings : List Finding) → others_among findings
+        ≡ by_level (filter (λ f. not (is_hit f.impact)) findings) }
 {}
 
 /// The text report of a log has exactly one line per shown result, no control character except their ends, no

@@ -29,12 +29,26 @@ pub fn gate_end(alloc: Global, hits: u32, max: u32) -> Result<String, AllocError
     format!(in alloc; ", {hits}, {max} allowed")
 }
 
-/// Returns the verdict, the hits and how many of them are allowed. Returns `AllocError` if memory runs out.
-pub fn gate_text(alloc: Global, verdict: Verdict, hits: u32, max: u32) -> Result<String, AllocError>
-    ensures { IfOk result (λ s. string_bytes s ≡ said.gate_text verdict hits max) }
+/// Returns what follows the verdict of conditions: the hits, and how many of all conditions failed. Returns `AllocError` if
+/// memory runs out.
+pub fn conditions_end(
+    alloc: Global,
+    hits: u32,
+    failed: usize,
+    all: usize,
+) -> Result<String, AllocError>
+    ensures { IfOk result (λ s. string_bytes s ≡ said.conditions_end hits failed all) }
+{
+    let hits = hits_text(alloc, hits as usize)?;
+    let all = count_text(alloc, all, " condition failed", " conditions failed")?;
+    format!(in alloc; ", {hits}, {failed} of {all}")
+}
+
+/// Returns the verdict and what follows it. Returns `AllocError` if memory runs out.
+pub fn gate_text(alloc: Global, verdict: Verdict, end: &str) -> Result<String, AllocError>
+    ensures { IfOk result (λ s. string_bytes s ≡ said.gate_text verdict end.now) }
 {
     let word = verdict.name();
-    let end = gate_end(alloc, hits, max)?;
     format!(in alloc; "Gate: {word}{end}")
 }
 
@@ -177,4 +191,29 @@ pub fn outside_text(alloc: Global, number: u32) -> Result<String, AllocError>
         " result outside the change would be a hit.",
         " results outside the change would be hits.",
     )
+}
+
+/// Returns how many filters of a policy match no current result. Returns `AllocError` if memory runs out.
+pub fn filters_text(alloc: Global, number: u32) -> Result<String, AllocError>
+    ensures { IfOk result (λ s. string_bytes s ≡ said.filters_text number) }
+{
+    count_text(
+        alloc,
+        number as usize,
+        " filter of the policy matches nothing.",
+        " filters of the policy match nothing.",
+    )
+}
+
+/// Returns how many active current results no condition of a policy checks. Returns `AllocError` if memory runs out.
+pub fn unchecked_text(alloc: Global, number: u32) -> Result<String, AllocError>
+    ensures { IfOk result (λ s. string_bytes s ≡ said.unchecked_text number) }
+{
+    let results = count_text(
+        alloc,
+        number as usize,
+        " active result.",
+        " active results.",
+    )?;
+    format!(in alloc; "No condition checks {results}")
 }

@@ -1,4 +1,5 @@
 //! The input of reports.
+use sarif_conditions::PolicyFacts;
 use sarif_counts::{Counts, Life};
 use sarif_findings::{Finding, Show};
 use sarif_links::Template;
@@ -11,7 +12,7 @@ use std::hash::RandomState;
 pub struct ReportInput<'a> {
     /// How many results the merged log has, by baseline state, level and suppression.
     pub counts: &'a Counts,
-    /// The policy of the gate, which decides the hits and the verdict.
+    /// The policy of the gate, which decides the hits and the verdict if there is no `ruling`.
     pub policy: &'a Policy,
     /// Which of the reported results are shown.
     pub show: Show,
@@ -28,6 +29,9 @@ pub struct ReportInput<'a> {
     /// What the gate says about the change, if it checks one. Then the findings are of results inside of it, and the
     /// hits and the verdict are too; the counts are of all results.
     pub change: Option<ChangeFacts>,
+    /// What the conditions of the gate's policy decide, if it has one. Then the findings are of the results that a
+    /// condition reports, and each says what it does to the gate; the hits and the verdict are those of the conditions.
+    pub ruling: Option<&'a PolicyFacts>,
     /// The seed of hash tables whose keys come from logs. No report depends on it.
     pub seed: RandomState,
 }

@@ -25,7 +25,7 @@ use Rattle.sarif_accept.specs.Keeping.{chosen, is_kept}
 use Rattle.sarif_accept.specs.NewFile.{entries_after, entries_in, file_object, file_text, new_file, stripped_in}
 use Rattle.sarif_accept.proofs.CheckedList.{checked_list}
 use Rattle.sarif_upkeep.proofs.Shown.{each_shown}
-use Rattle.sarif_upkeep.specs.Heard.{heard}
+use Rattle.sarif_heard.specs.Heard.{heard}
 use Rattle.sarif_upkeep.specs.Internal.IsMatched.{IsFileOf}
 use Rattle.sarif_upkeep.specs.Internal.Making.{entries_of, file_of as made_of}
 use Rattle.sarif_upkeep.specs.Merge.{Merge}

@@ -19,7 +19,6 @@ use Rattle.sarif_suppress.specs.Suppressing.{matching_numbers}
 use Rattle.sarif_runs.specs.declared.opened.OpenedRun.{OpenedRun}
 use Rattle.sarif_runs.specs.Judging.{run_values}
 use Rattle.sarif_runs.specs.Internal.Opened.{placed_of}
-use Rattle.sarif_runs.specs.Placed.{Placed}
 use Rattle.sarif_results.specs.declared.draft.Draft.{Draft}
 use Rattle.sarif_results.specs.Drafts.{applied_of}
 use Rattle.sarif_known.specs.Chosen.{all_chosen, chosen_of, results_among, Chosen}
@@ -27,14 +26,10 @@ use Rattle.sarif_known.specs.KnownLog.{known_text, too_long}
 use Rattle.sarif_known.specs.declared.chosen.KnownRun.{KnownRun}
 use Rattle.sarif_known.specs.declared.standing.Standing.{Standing}
 use Rattle.sarif_known.specs.Selected.{is_left_out, keep_unless, kept_of, known_of, unmatched_of}
-use Rattle.sarif_upkeep.specs.Heard.{tool_run}
+use Rattle.sarif_heard.specs.Heard.{tool_run}
 use Rattle.sarif_upkeep.specs.Known.{chosen_before, chosen_now, gone_if, kept_before, known_faults, known_now, matched_or_alike, records_among, runs_known}
 use Rattle.sarif_upkeep.specs.Merge.{present_counts, Merge}
 use Rattle.sarif_upkeep.proofs.Walked.{first_left}
-
-pub tools_are : (runs : List Placed) → map (λ p. tool_run p.run) runs ≡ map tool_run (run_values runs)
-tools_are [] = refl
-tools_are (p ∷ ps) = ap (λ l. tool_run p.run ∷ l) (tools_are ps)
 
 -- one more record, whose draft says what the file makes of it
 pub record NextRecord (file : File) (rs : List Record) (n : ℕ) (draft : Draft) : Type 0 where

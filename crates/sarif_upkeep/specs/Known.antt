@@ -22,7 +22,7 @@ use Rattle.sarif_known.specs.KnownLog.{known_text}
 use Rattle.sarif_known.specs.Order.{known_runs}
 use Rattle.sarif_known.specs.Selected.{kept_of, known_of}
 use Rattle.sarif_known.specs.declared.standing.Standing.{Standing}
-use Rattle.sarif_upkeep.specs.Heard.{heard}
+use Rattle.sarif_heard.specs.Heard.{heard}
 use Rattle.sarif_upkeep.specs.Merge.{Merge}
 
 -- whether new hits and new suppressed results become known too

@@ -1,4 +1,3 @@
-pub mod Heard
 pub mod Hiding
 pub mod Internal
 pub mod Known

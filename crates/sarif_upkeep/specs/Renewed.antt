@@ -21,7 +21,7 @@ use Rattle.sarif_accept.specs.Choosing.{accepted_by, added_by, alike_among, entr
 use Rattle.sarif_accept.specs.Entry.{entry_for}
 use Rattle.sarif_accept.specs.Keeping.{is_kept}
 use Rattle.sarif_accept.specs.NewFile.{entries_after, file_object, file_text, new_file}
-use Rattle.sarif_upkeep.specs.Heard.{heard}
+use Rattle.sarif_heard.specs.Heard.{heard}
 use Rattle.sarif_upkeep.specs.Merge.{chosen_shown, records_shown, states_shown, Merge}
 
 abbrev pub how_of : Merge → Renewal → How

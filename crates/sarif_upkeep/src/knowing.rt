@@ -16,10 +16,10 @@ ghost use Rattle.sarif_upkeep.specs.Merge.{present_counts, present_total, Merge}
 ghost use Rattle.sarif_upkeep.specs.ReadBack.{IsKnownLog};
 
 use crate::matched::{Before, Matched};
-use crate::tools::heard_in;
 use sarif_accept::Heard;
 use sarif_copies::list_alike;
 use sarif_counts::KnownLog;
+use sarif_heard::heard_in;
 use sarif_known::{Choice, KnownRun, Results, keep_run, know_run, known_text};
 use sarif_model::{MergeFault, Record, Text};
 use sarif_options::Knowing;

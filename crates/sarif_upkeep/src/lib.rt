@@ -12,7 +12,7 @@ mod others;
 mod renewing;
 mod showing;
 mod staying;
-mod tools;
+mod used;
 
 pub use laws::{
     a_change_is_for_accepting_alone, accepting_is_of_all_without_a_change,

@@ -10,7 +10,7 @@ ghost use Rattle.sarif_upkeep.specs.ReadBack.{IsReadAgain};
 use crate::knowing::remember;
 use crate::matched::Matched;
 use crate::renewing::renew;
-use crate::tools::used_by;
+use crate::used::used_by;
 use sarif_accept::unused_lines;
 use sarif_counts::{KnownLog, Life, NewFile};
 use sarif_model::{MergeFault, Text};

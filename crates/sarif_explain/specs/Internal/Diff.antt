@@ -32,11 +32,6 @@ found_in (b ∷ bytes) =
     if is_utf8 (b ∷ bytes) then shortened most_of_a_value (chars (b ∷ bytes))
     else codes "bytes that are not UTF-8"
 
--- the name of a file, if it has one
-abbrev pub file_line : List ℕ → List ℕ
-file_line [] = []
-file_line (c ∷ name) = line_of (codes "file") (c ∷ name)
-
 -- the number of the line at which an error is, and what was found there
 abbrev pub spot_of : At → List ℕ → List ℕ
 spot_of (Line number) bytes =

@@ -11,7 +11,7 @@ use Rattle.sarif_inputs.specs.Faults.{faults_of}
 use Rattle.sarif_entries.specs.Given.{file_or_none}
 use Rattle.sarif_inputs.specs.Inputs.{Inputs, baseline_runs, input_runs}
 use Rattle.sarif_merge.specs.Life.{merge_counted}
-use Rattle.sarif_merge.specs.MergedLog.{change_given, expired_in, file_in}
+use Rattle.sarif_merge.specs.MergedLog.{change_given, conditions_given, expired_in, file_in}
 
 -- there are no errors, and everything that is written for the merge is there
 pub record IsPreparedFor (inputs : Inputs) (policy : Policy) (asked : Option Reporting)
@@ -21,6 +21,6 @@ pub record IsPreparedFor (inputs : Inputs) (policy : Policy) (asked : Option Rep
       (file_in (file_or_none inputs.suppressions inputs.today))
       (input_runs inputs)
       (baseline_runs inputs)
-      (change_given inputs) policy asked prepared
+      (change_given inputs) policy (conditions_given inputs) asked prepared
   pub expired : prepared.expired ≡ expired_in inputs
   pub kept : IsKept (merge_counted inputs policy choice) upkeep prepared.life

@@ -8,6 +8,12 @@ use Rattle.sarif_scope.specs.Inside.{is_outside_of}
 use Rattle.sarif_scope.specs.declared.gated.GatedChange.{GatedChange}
 use Rattle.sarif_outside.specs.declared.asked.AskedResult.{AskedResult}
 use Rattle.sarif_outside.specs.declared.asked.LookedRun.{LookedRun}
+use Rattle.sarif_outside.specs.declared.scoped.ScopedChange.{ScopedChange}
+use Rattle.sarif_outside.specs.Marks.{in_scope}
+
+-- the change, as the definitions see it
+abbrev pub scoped : ScopedChange → GatedChange
+scoped change = in_scope change.scope change.change.now
 
 -- the run, as the definitions see it
 abbrev pub placed_looked : LookedRun → Placed
@@ -15,11 +21,11 @@ placed_looked run = placed_of run.opened.now
 
 -- the change and the run, as the definitions see it
 abbrev pub looked_as : LookedRun → GatedChange × Placed
-looked_as run = (run.change.now, placed_looked run)
+looked_as run = (scoped run.change, placed_looked run)
 
 -- the artifacts of this run are looked up in this change
 abbrev pub IsLookedFor : GatedChange → LookedRun → Type 0
-IsLookedFor change run = run.change.now ≡ change
+IsLookedFor change run = scoped run.change ≡ change
 
 abbrev pub AreLookedFor : GatedChange → List LookedRun → Type 0
 AreLookedFor change runs = All (IsLookedFor change) runs
@@ -28,5 +34,5 @@ AreLookedFor change runs = All (IsLookedFor change) runs
 abbrev pub mark_by : Option AskedResult → Bool
 mark_by None = false
 mark_by (Some asked) =
-    is_outside_of asked.run.now.change.now (placed_looked asked.run.now).run
+    is_outside_of (scoped asked.run.now.change) (placed_looked asked.run.now).run
     (result_at (placed_looked asked.run.now).run asked.seq)

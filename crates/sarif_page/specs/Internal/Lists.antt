@@ -25,6 +25,7 @@ tables_in rows = record {
   others = findings_in rows.others.items;
   all_hits = rows.all_hits;
   all_others = rows.all_others;
+  marked = rows.marked;
   rules = rules_in rows.index.shown.items;
   all_rules = rows.index.all;
   link = option_map (λ link. link.now) rows.link;

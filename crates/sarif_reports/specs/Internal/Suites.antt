@@ -5,7 +5,7 @@ use Rattle.std.specs.declared.alloc.Global.{Global}
 use Rattle.std.specs.declared.string.String.{String}
 use Rattle.std.specs.declared.vec.Vec.{Vec}
 use Rattle.std.specs.HashMap.{HashMap, get_by_text}
-use Rattle.sarif_counts.specs.declared.gate_verdict.Verdict.{Verdict}
+use Rattle.sarif_shown.specs.declared.stopping.Stopping.{Stopping}
 use Rattle.sarif_findings.specs.declared.finding.Finding.{Finding}
 use Rattle.sarif_reports.specs.JunitReport.{results_of, suite_of, tools_of}
 
@@ -41,10 +41,10 @@ abbrev pub seen_suites : {S : Type 0} → HashMap (Bor (List ℕ)) (Vec (Bor Fin
 seen_suites table = map seen_suite table.entries
 
 -- the suite of such an entry
-abbrev pub entry_text : Verdict → Bor (List ℕ) × Vec (Bor Finding) Global → List ℕ
-entry_text verdict entry = suite_of verdict entry.0.now (pointed entry.1.items)
+abbrev pub entry_text : Stopping → Bor (List ℕ) × Vec (Bor Finding) Global → List ℕ
+entry_text stopping entry = suite_of stopping entry.0.now (pointed entry.1.items)
 
 -- the suite of an entry, if there is one
-abbrev pub text_at : Verdict → Option (Bor (List ℕ) × Vec (Bor Finding) Global) → List ℕ
-text_at verdict None = []
-text_at verdict (Some entry) = entry_text verdict entry
+abbrev pub text_at : Stopping → Option (Bor (List ℕ) × Vec (Bor Finding) Global) → List ℕ
+text_at stopping None = []
+text_at stopping (Some entry) = entry_text stopping entry

@@ -1,11 +1,12 @@
-use Rattle.std.proofs.Common.{◌≡◌, ◌∙◌, ◌++◌, [], false, ap, append-nil}
+use Rattle.std.proofs.Common.{◌≡◌, ◌∙◌, ◌++◌, [], false, None, ap, append-nil}
+use Rattle.std.specs.Prelude.{is_some}
 use Rattle.sarif_inputs.specs.ChangeIn.{change_or_none, change_read}
 use Rattle.sarif_inputs.specs.Faults.{faults_of}
 use Rattle.sarif_inputs.specs.Inputs.{Inputs, baseline_runs, input_runs}
-use Rattle.sarif_inputs.specs.PolicyIn.{faults_of_policy, policy_read}
+use Rattle.sarif_inputs.specs.PolicyIn.{conditions_or_none, faults_of_policy, policy_read}
 use Rattle.sarif_inputs_laws.proofs.Parts.{apart_faults}
 use Rattle.sarif_inputs_laws.proofs.Renumbered.{faults-append, none_both}
-use Rattle.sarif_merge.specs.MergedLog.{file_given, runs_counted}
+use Rattle.sarif_merge.specs.MergedLog.{change_given, file_given, runs_counted}
 use Rattle.sarif_prepare.specs.By.{logged_by}
 use Rattle.sarif_runs.specs.Judging.{faults_of_runs}
 use Rattle.sarif_scope.specs.Counted.{hits_by, verdict_by}
@@ -28,9 +29,11 @@ pub returns : goal.returns
 returns c = record {
   faultless = λ inputs no_policy none. only_policy inputs none ∙ ap (λ policy. faults_of_policy (policy_read false policy)) no_policy;
   needed = only_policy;
-  log = λ inputs policy no_diff.
-      ap (λ diff. logged_by inputs.checks (file_given inputs) (input_runs inputs) (baseline_runs inputs)
-      (change_or_none (change_read inputs.checks diff)) policy) no_diff;
+  log = λ inputs policy no_diff no_policy.
+      ap (λ given. logged_by inputs.checks (file_given inputs) (input_runs inputs) (baseline_runs inputs) (change_given inputs) policy
+      (conditions_or_none (policy_read (is_some inputs.diff) given))) no_policy
+      ∙ ap (λ diff. logged_by inputs.checks (file_given inputs) (input_runs inputs) (baseline_runs inputs)
+      (change_or_none (change_read inputs.checks diff)) policy None) no_diff;
   hits = λ inputs policy no_diff.
       ap (λ diff. hits_by (change_or_none (change_read inputs.checks diff)) policy (runs_counted inputs)) no_diff;
   verdict = λ inputs policy no_diff.

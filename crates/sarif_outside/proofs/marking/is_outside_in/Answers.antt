@@ -6,14 +6,14 @@ use Rattle.sarif_model.specs.Run.{result_at}
 use Rattle.sarif_change.specs.Outside.{is_outside}
 use Rattle.sarif_change.specs.Places.{places_of}
 use Rattle.sarif_change.specs.declared.spots.Scope.{Scope}
-use Rattle.sarif_outside.specs.Internal.Asked.{placed_looked}
+use Rattle.sarif_outside.specs.Internal.Asked.{placed_looked, scoped}
 use Rattle.sarif_outside.proofs.marking.is_outside_in.Goals as goal
 
 pub returns : goal.returns
 returns c =
     let looked = c.args.run.now in
     let known = looked.known in
-    let change = looked.change.now in
+    let change = scoped looked.change in
     let found = result_at (placed_looked looked).run c.args.seq in
     c.in_ok-outside.ensures
     ∙ ap (λ (d : Data). is_outside known.changed.now known.roots.now known.scope (places_of known.artifacts d)) c.in_ok-found.ensures

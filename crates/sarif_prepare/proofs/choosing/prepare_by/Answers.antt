@@ -2,6 +2,7 @@ use Rattle.std.proofs.Common.{IfErr, IfOk, subst}
 use Rattle.std.proofs.lemmas.Result.{IfOk-weaker}
 use Rattle.sarif_prepare.specs.Asked.{choice_in, reporting_in, upkeep_in}
 use Rattle.sarif_prepare.specs.Kept.{bytes_of, change_in, IsKept, IsUnkept}
+use Rattle.sarif_prepare.specs.Ruled.{policy_in}
 use Rattle.sarif_results.specs.Internal.Judged.{placed_in}
 use Rattle.sarif_log.specs.LogBy.{limited_records}
 use Rattle.sarif_prepare.proofs.Chosen.{counted_all, counted_once, merge_all, merge_once}
@@ -11,7 +12,7 @@ pub returns-then-asked-clause-prepared : goal.returns-then-asked-clause-prepared
 returns-then-asked-clause-prepared g c =
     IfOk-weaker c.prepare_once.result _ _
     (counted_once c.args.asked.now.options.now.checks c.args.rules.now.file.now (placed_in c.args.current) (placed_in c.args.baseline)
-    (change_in c.args.rules.now) c.args.asked.now.options.now.policy (reporting_in c.args.asked.now) c.if-asked.true) c.prepare_once.ensures.prepared
+    (change_in c.args.rules.now) c.args.asked.now.options.now.policy (policy_in c.args.rules.now) (reporting_in c.args.asked.now) c.if-asked.true) c.prepare_once.ensures.prepared
 
 pub returns-then-asked-clause-kept : goal.returns-then-asked-clause-kept
 returns-then-asked-clause-kept g c =
@@ -29,7 +30,7 @@ pub returns-else-asked-clause-prepared : goal.returns-else-asked-clause-prepared
 returns-else-asked-clause-prepared g c =
     IfOk-weaker c.prepare.result _ _
     (counted_all c.args.asked.now.options.now.checks c.args.rules.now.file.now (placed_in c.args.current) (placed_in c.args.baseline)
-    (change_in c.args.rules.now) c.args.asked.now.options.now.policy (reporting_in c.args.asked.now) c.if-asked.false) c.prepare.ensures.prepared
+    (change_in c.args.rules.now) c.args.asked.now.options.now.policy (policy_in c.args.rules.now) (reporting_in c.args.asked.now) c.if-asked.false) c.prepare.ensures.prepared
 
 pub returns-else-asked-clause-kept : goal.returns-else-asked-clause-kept
 returns-else-asked-clause-kept g c =

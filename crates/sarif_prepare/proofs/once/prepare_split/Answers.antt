@@ -6,15 +6,15 @@ use Rattle.sarif_runs.specs.Judging.{records_of, run_values}
 use Rattle.sarif_once.specs.Once.{without_copies}
 use Rattle.sarif_log.specs.LogBy.{limited_records, states_of}
 use Rattle.sarif_log.proofs.Sides.{taken_long}
-use Rattle.sarif_prepare.proofs.MatchedRecords.{lent_sides, limited_results}
+use Rattle.sarif_prepare.proofs.MatchedRecords.{limited_results}
 use Rattle.sarif_prepare.specs.Asked.{choice_in, upkeep_in}
 use Rattle.sarif_prepare.specs.Chosen.{chosen_merge}
 use Rattle.sarif_prepare.specs.Kept.{bytes_of, change_in, IsKept}
+use Rattle.sarif_prepare.specs.Ruled.{policy_in}
 use Rattle.sarif_prepare.specs.Internal.Baselines.{baseline_drafts}
 use Rattle.sarif_prepare.specs.Internal.Leftover.{not_taken}
 use Rattle.sarif_prepare.specs.Internal.Woven.{AreLeftWoven}
 use Rattle.sarif_prepare.proofs.WovenLog.{before_few, before_flags, before_is_side, now_few, now_flags, now_is_side, states_given, taken_given, woven_prepared}
-use Rattle.sarif_prepare.proofs.NarrowedSides.{drafts_few, facts_are, left_many, lent_narrowed, runs_few, spots_many, states_all}
 use Rattle.sarif_prepare.proofs.once.prepare_split.Goals as goal
 
 pub pair_sides-requires-clause-found : goal.pair_sides-requires-clause-found
@@ -26,58 +26,13 @@ pair_sides-requires-clause-found g c κs within = (
   c.requires.apart.2.changes,
 )
 
-pub narrow_if-requires-clause-runs : goal.narrow_if-requires-clause-runs
-narrow_if-requires-clause-runs g c κs within =
-    runs_few c.args.asked.now.options.now.checks.matching c.args.rules.now.file.now (without_copies c.requires.apart.0) (without_copies c.requires.apart.1)
-    c.in_ok-sides.sides.current c.in_ok-sides.sides.baselines c.in_ok-sides.sides.paired
-    (c.in_ok-sides.ensures.together c.args.rules.now.file.now (without_copies c.requires.apart.0) (without_copies c.requires.apart.1)
-    c.requires.apart.2.found c.requires.apart.2.changes) c.in_ok-sides.ensures.paired
-
-pub narrow_if-requires-clause-drafts : goal.narrow_if-requires-clause-drafts
-narrow_if-requires-clause-drafts g c κs within =
-    spots_many c.args.asked.now.options.now.checks.matching c.args.rules.now.file.now (without_copies c.requires.apart.0) (without_copies c.requires.apart.1)
-    c.in_ok-sides.sides.current c.in_ok-sides.sides.baselines c.in_ok-sides.sides.paired
-    (c.in_ok-sides.ensures.together c.args.rules.now.file.now (without_copies c.requires.apart.0) (without_copies c.requires.apart.1)
-    c.requires.apart.2.found c.requires.apart.2.changes) c.in_ok-sides.ensures.paired
-
-pub narrow_if-requires-clause-few : goal.narrow_if-requires-clause-few
-narrow_if-requires-clause-few g c κs within =
-    drafts_few c.args.asked.now.options.now.checks.matching c.args.rules.now.file.now (without_copies c.requires.apart.0) (without_copies c.requires.apart.1)
-    c.in_ok-sides.sides.current c.in_ok-sides.sides.baselines c.in_ok-sides.sides.paired
-    (c.in_ok-sides.ensures.together c.args.rules.now.file.now (without_copies c.requires.apart.0) (without_copies c.requires.apart.1)
-    c.requires.apart.2.found c.requires.apart.2.changes) c.in_ok-sides.ensures.paired
-
-pub narrow_if-requires-clause-few_left : goal.narrow_if-requires-clause-few_left
-narrow_if-requires-clause-few_left g c κs within =
-    left_many c.args.asked.now.options.now.checks.matching c.args.rules.now.file.now (without_copies c.requires.apart.0) (without_copies c.requires.apart.1)
-    c.in_ok-sides.sides.current c.in_ok-sides.sides.baselines c.in_ok-sides.sides.paired
-    (c.in_ok-sides.ensures.together c.args.rules.now.file.now (without_copies c.requires.apart.0) (without_copies c.requires.apart.1)
-    c.requires.apart.2.found c.requires.apart.2.changes) c.in_ok-sides.ensures.paired
-
-pub narrow_if-requires-clause-states : goal.narrow_if-requires-clause-states
-narrow_if-requires-clause-states g c κs within =
-    states_all c.args.asked.now.options.now.checks.matching c.args.rules.now.file.now (without_copies c.requires.apart.0) (without_copies c.requires.apart.1)
-    c.in_ok-sides.sides.current c.in_ok-sides.sides.baselines c.in_ok-sides.sides.paired
-    (c.in_ok-sides.ensures.together c.args.rules.now.file.now (without_copies c.requires.apart.0) (without_copies c.requires.apart.1)
-    c.requires.apart.2.found c.requires.apart.2.changes) c.in_ok-sides.ensures.paired
-
-pub tell_sides-requires-clause-together : goal.tell_sides-requires-clause-together
-tell_sides-requires-clause-together g c κs within =
-    let file = c.args.rules.now.file.now in
-    let now = c.requires.apart.0 in
-    let before = c.requires.apart.1 in
-    let t = c.in_ok-sides.ensures.together file (without_copies now) (without_copies before) c.requires.apart.2.found c.requires.apart.2.changes in (
-      without_copies now,
-      without_copies before,
-      lent_sides file (without_copies now) (without_copies before) c.in_ok-sides.sides.current c.lend-lent.result.current.now c.in_ok-sides.sides.baselines
-          c.lend-lent.result.baselines.now c.lend-lent.ensures.current c.lend-lent.ensures.baselines t,
-    )
-
-pub tell_sides-requires-clause-narrowed : goal.tell_sides-requires-clause-narrowed
-tell_sides-requires-clause-narrowed g c κs within =
-    lent_narrowed (change_in c.args.rules.now) c.args.asked.now.options.now.policy c.in_ok-sides.sides.current c.lend-lent.result.current.now
-    c.in_ok-sides.sides.paired c.lend-lent.result.paired.now _ _ c.lend-lent.ensures.current c.lend-lent.ensures.paired c.lend-lent.ensures.narrowed
-    c.in_ok-narrowed.ensures
+pub report_sides-requires-clause-together : goal.report_sides-requires-clause-together
+report_sides-requires-clause-together g c κs within = (
+  without_copies c.requires.apart.0,
+  without_copies c.requires.apart.1,
+  c.in_ok-sides.ensures.together c.args.rules.now.file.now (without_copies c.requires.apart.0) (without_copies c.requires.apart.1)
+      c.requires.apart.2.found c.requires.apart.2.changes,
+)
 
 pub weave_baselines-requires : goal.weave_baselines-requires
 weave_baselines-requires g c = (
@@ -150,16 +105,13 @@ returns-clause-prepared g c = λ now before h.
     subst (λ ts. AreLeftWoven ts before other.copies.items other.left.side) taken
     (c.in_ok-there.ensures now before h.whole t.are_baselines h.baseline_copies long left) in
     let made = c.put_together.ensures in
-    woven_prepared v file now before current baselines h.whole t logs other c.put_together.result (change_in c.args.rules.now) c.args.asked.now.options.now.policy _ here there made.current made.baseline made.copies
+    woven_prepared v file now before current baselines h.whole t logs other c.put_together.result (change_in c.args.rules.now) c.args.asked.now.options.now.policy
+    (policy_in c.args.rules.now) _ here there made.current made.baseline made.copies
     (made.without ∙ c.in_ok-here.ensures.without now t.is_current h.current_copies)
     (made.unused ∙ c.in_ok-here.ensures.unused (limited_records file tn) (flat_map results_of (run_values tn))
     (limited_results file tn t.current_records) t.is_current.drafts)
-    (made.change ∙ c.facts_of-change.ensures
-    ∙ facts_are v file tn tb current baselines c.in_ok-sides.sides.paired t q (change_in c.args.rules.now) c.args.asked.now.options.now.policy _
-    c.in_ok-narrowed.ensures)
-    (ap (λ fs. fs.items) made.findings ∙ c.in_ok-findings.ensures.findings file tn tb
-    (lent_sides file (without_copies now) (without_copies before) c.in_ok-sides.sides.current c.lend-lent.result.current.now c.in_ok-sides.sides.baselines
-    c.lend-lent.result.baselines.now c.lend-lent.ensures.current c.lend-lent.ensures.baselines t))
+    (made.change ∙ c.in_ok-reported.ensures.change tn tb t) (made.ruling ∙ c.in_ok-reported.ensures.ruling tn tb t)
+    (ap (λ fs. fs.items) made.findings ∙ c.in_ok-reported.ensures.findings tn tb t)
 
 pub returns-clause-expired : goal.returns-clause-expired
 returns-clause-expired g c = λ rs. c.put_together.ensures.expired ∙ c.in_ok-here.ensures.expired rs
@@ -172,14 +124,10 @@ returns-clause-kept g c = λ now before h.
     let options = c.args.asked.now.options.now in
     let rules = c.args.rules.now in
     let merge = chosen_merge options.checks rules.file.now (bytes_of rules) (change_in rules) options.policy (choice_in c.args.asked.now) tn tb in
-    subst (λ l. IsKept merge (upkeep_in c.args.asked.now) l) (sym c.put_together.ensures.life) (c.in_ok-findings.ensures.kept tn tb
-    (lent_sides c.args.rules.now.file.now (without_copies now) (without_copies before) c.in_ok-sides.sides.current c.lend-lent.result.current.now c.in_ok-sides.sides.baselines
-    c.lend-lent.result.baselines.now c.lend-lent.ensures.current c.lend-lent.ensures.baselines t))
+    subst (λ l. IsKept merge (upkeep_in c.args.asked.now) l) (sym c.put_together.ensures.life) (c.in_ok-reported.ensures.kept tn tb t)
 
-pub returns-in_err-findings-clause-unkept : goal.returns-in_err-findings-clause-unkept
-returns-in_err-findings-clause-unkept g c = λ now before h.
+pub returns-in_err-reported-clause-unkept : goal.returns-in_err-reported-clause-unkept
+returns-in_err-reported-clause-unkept g c = λ now before h.
     let t = c.in_ok-sides.ensures.together c.args.rules.now.file.now (without_copies now) (without_copies before) h.found h.changes in
-    let p = err_from_is_err_and c.from_residual-in_err-findings.result c.from_residual-in_err-findings.ensures.1 in
-    rw (p.1, p.2) (c.in_err-findings.ensures.unkept (without_copies now) (without_copies before)
-    (lent_sides c.args.rules.now.file.now (without_copies now) (without_copies before) c.in_ok-sides.sides.current c.lend-lent.result.current.now c.in_ok-sides.sides.baselines
-    c.lend-lent.result.baselines.now c.lend-lent.ensures.current c.lend-lent.ensures.baselines t))
+    let p = err_from_is_err_and c.from_residual-in_err-reported.result c.from_residual-in_err-reported.ensures.1 in
+    rw (p.1, p.2) (c.in_err-reported.ensures.unkept (without_copies now) (without_copies before) t)

@@ -9,50 +9,9 @@ use Rattle.sarif_prepare.specs.Internal.Baselines.{baseline_drafts, IsLeft}
 use Rattle.sarif_log.specs.LogBy.{limited_records, taken_of}
 use Rattle.sarif_log.proofs.Sides.{taken_long, without_results}
 use Rattle.sarif_prepare.specs.Internal.Limiting.{unadmitted}
-use Rattle.sarif_prepare.proofs.MatchedRecords.{lent_sides, limited_results, matched_records}
+use Rattle.sarif_prepare.proofs.MatchedRecords.{limited_results, matched_records}
 use Rattle.sarif_prepare.proofs.WrittenSides.{current_long, current_side, left_few, left_is_side, written}
-use Rattle.sarif_prepare.specs.Kept.{change_in}
-use Rattle.sarif_prepare.proofs.NarrowedSides.{drafts_few, facts_are, left_many, lent_narrowed, runs_few, spots_many, states_all}
 use Rattle.sarif_prepare.proofs.preparing.prepare_sides.Goals as goal
-
-pub narrow_if-requires-clause-runs : goal.narrow_if-requires-clause-runs
-narrow_if-requires-clause-runs g c κs within =
-    runs_few c.args.asked.now.options.now.checks.matching c.args.rules.now.file.now c.requires.together.0 c.requires.together.1 c.args.sides.current c.args.sides.baselines
-    c.args.sides.paired c.requires.together.2 c.requires.paired
-
-pub narrow_if-requires-clause-drafts : goal.narrow_if-requires-clause-drafts
-narrow_if-requires-clause-drafts g c κs within =
-    spots_many c.args.asked.now.options.now.checks.matching c.args.rules.now.file.now c.requires.together.0 c.requires.together.1 c.args.sides.current c.args.sides.baselines
-    c.args.sides.paired c.requires.together.2 c.requires.paired
-
-pub narrow_if-requires-clause-few : goal.narrow_if-requires-clause-few
-narrow_if-requires-clause-few g c κs within =
-    drafts_few c.args.asked.now.options.now.checks.matching c.args.rules.now.file.now c.requires.together.0 c.requires.together.1 c.args.sides.current c.args.sides.baselines
-    c.args.sides.paired c.requires.together.2 c.requires.paired
-
-pub narrow_if-requires-clause-few_left : goal.narrow_if-requires-clause-few_left
-narrow_if-requires-clause-few_left g c κs within =
-    left_many c.args.asked.now.options.now.checks.matching c.args.rules.now.file.now c.requires.together.0 c.requires.together.1 c.args.sides.current c.args.sides.baselines
-    c.args.sides.paired c.requires.together.2 c.requires.paired
-
-pub narrow_if-requires-clause-states : goal.narrow_if-requires-clause-states
-narrow_if-requires-clause-states g c κs within =
-    states_all c.args.asked.now.options.now.checks.matching c.args.rules.now.file.now c.requires.together.0 c.requires.together.1 c.args.sides.current c.args.sides.baselines
-    c.args.sides.paired c.requires.together.2 c.requires.paired
-
-pub tell_sides-requires-clause-together : goal.tell_sides-requires-clause-together
-tell_sides-requires-clause-together g c κs within = (
-  c.requires.together.0,
-  c.requires.together.1,
-  lent_sides c.args.rules.now.file.now c.requires.together.0 c.requires.together.1 c.args.sides.current c.lend-lent.result.current.now c.args.sides.baselines
-      c.lend-lent.result.baselines.now c.lend-lent.ensures.current c.lend-lent.ensures.baselines c.requires.together.2,
-)
-
-pub tell_sides-requires-clause-narrowed : goal.tell_sides-requires-clause-narrowed
-tell_sides-requires-clause-narrowed g c κs within =
-    lent_narrowed (change_in c.args.rules.now) c.args.asked.now.options.now.policy c.args.sides.current c.lend-lent.result.current.now
-    c.args.sides.paired c.lend-lent.result.paired.now _ _ c.lend-lent.ensures.current c.lend-lent.ensures.paired c.lend-lent.ensures.narrowed
-    c.in_ok-narrowed.ensures
 
 pub left_side-requires-clause-taken : goal.left_side-requires-clause-taken
 left_side-requires-clause-taken g c =
@@ -111,23 +70,16 @@ returns-clause-prepared g c = λ now before h.
           c.in_ok-side.ensures.unused (limited_records file now) (flat_map results_of (run_values now))
           (limited_results file now h.current_records) h.is_current.drafts;
       expired = c.in_ok-side.ensures.expired (limited_records file now);
-      change = c.facts_of-change.ensures
-          ∙ facts_are c.args.asked.now.options.now.checks.matching file now before c.args.sides.current c.args.sides.baselines c.args.sides.paired h q
-          (change_in c.args.rules.now) c.args.asked.now.options.now.policy _ c.in_ok-narrowed.ensures;
-      told = c.in_ok-findings.ensures.findings file now before
-          (lent_sides c.args.rules.now.file.now now before c.args.sides.current c.lend-lent.result.current.now c.args.sides.baselines c.lend-lent.result.baselines.now
-          c.lend-lent.ensures.current c.lend-lent.ensures.baselines h);
+      change = c.in_ok-reported.ensures.change now before h;
+      ruling = c.in_ok-reported.ensures.ruling now before h;
+      told = c.in_ok-reported.ensures.findings now before h;
       copies = refl;
     }
 
 pub returns-clause-kept : goal.returns-clause-kept
-returns-clause-kept g c = λ now before h. c.in_ok-findings.ensures.kept now before
-    (lent_sides c.args.rules.now.file.now now before c.args.sides.current c.lend-lent.result.current.now c.args.sides.baselines c.lend-lent.result.baselines.now
-    c.lend-lent.ensures.current c.lend-lent.ensures.baselines h)
+returns-clause-kept g c = λ now before h. c.in_ok-reported.ensures.kept now before h
 
-pub returns-in_err-findings-clause-unkept : goal.returns-in_err-findings-clause-unkept
-returns-in_err-findings-clause-unkept g c = λ now before h.
-    let p = err_from_is_err_and c.from_residual-in_err-findings.result c.from_residual-in_err-findings.ensures.1 in
-    rw (p.1, p.2) (c.in_err-findings.ensures.unkept now before
-    (lent_sides c.args.rules.now.file.now now before c.args.sides.current c.lend-lent.result.current.now c.args.sides.baselines c.lend-lent.result.baselines.now
-    c.lend-lent.ensures.current c.lend-lent.ensures.baselines h))
+pub returns-in_err-reported-clause-unkept : goal.returns-in_err-reported-clause-unkept
+returns-in_err-reported-clause-unkept g c = λ now before h.
+    let p = err_from_is_err_and c.from_residual.result c.from_residual.ensures.1 in
+    rw (p.1, p.2) (c.in_err-reported.ensures.unkept now before h)

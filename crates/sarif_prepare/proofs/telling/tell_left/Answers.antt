@@ -10,8 +10,11 @@ use Rattle.sarif_prepare.proofs.telling.tell_left.Goals as goal
 pub list_told-requires-clause-within : goal.list_told-requires-clause-within
 list_told-requires-clause-within g c =
     let runs = map placed_of c.args.baselines.now.runs.items in
-    let named : map placed_told c.deref-3.result.now ≡ runs =
-    ap (map placed_told) c.deref-3.ensures.value ∙ c.in_ok-runs.ensures ∙ ap (map placed_of) c.deref-2.ensures.value in
-    let places = c.deref-4.ensures.value ∙ c.in_ok-spots.ensures ∙ ap (not_taken c.args.taken.now) c.deref.ensures.value in
-    subst (λ ps. All (IsSpotOf ps) c.deref-4.result.now) (sym named)
-    (subst (All (IsSpotOf runs)) (sym places) (left_within (IsSpotOf runs) c.args.taken.now c.args.baselines.now.spots.items c.requires.within))
+    let taken = c.args.paired.now.taken.items in
+    let named : map placed_told c.deref-4.result.now ≡ runs =
+    ap (map placed_told) c.deref-4.ensures.value ∙ c.in_ok-runs.ensures ∙ ap (map placed_of) c.deref-3.ensures.value in
+    let places =
+    c.deref-5.ensures.value ∙ c.in_ok-spots.ensures ∙ ap (λ ts. not_taken ts c.deref.result.now) c.deref-2.ensures.value
+    ∙ ap (not_taken taken) c.deref.ensures.value in
+    subst (λ ps. All (IsSpotOf ps) c.deref-5.result.now) (sym named)
+    (subst (All (IsSpotOf runs)) (sym places) (left_within (IsSpotOf runs) taken c.args.baselines.now.spots.items c.requires.within))

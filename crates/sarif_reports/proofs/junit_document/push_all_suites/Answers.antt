@@ -6,4 +6,4 @@ pub loop-number-preserved : goal.loop-number-preserved
 loop-number-preserved c =
     let es = c.args.suites.now.entries in
     let within : c.loop-number.number < length es = search rules in
-    suites_step c.args.verdict es c.loop-number.number _ _ _ within c.in_ok-push_suite_at.ensures c.loop-number.invariant
+    suites_step c.args.stopping es c.loop-number.number _ _ _ within c.in_ok-push_suite_at.ensures c.loop-number.invariant

@@ -22,6 +22,6 @@ loop-finding-preserved c =
     let f = c.finding-item.result in
     record {
       counts = λ name. counts_step fs i f name _ _ c.loop-finding-test.true c.finding-item.is (c.in_ok-push_next_case.ensures.counted name) (held.counts name);
-      written = cases_step c.args.verdict fs i f _ _ _ _ c.loop-finding-test.true c.finding-item.is
+      written = cases_step c.args.stopping fs i f _ _ _ _ c.loop-finding-test.true c.finding-item.is
           (held.counts (plain_name f.now)) c.in_ok-push_next_case.ensures.written held.written;
     }

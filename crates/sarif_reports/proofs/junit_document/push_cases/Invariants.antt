@@ -6,6 +6,6 @@ use Rattle.sarif_reports.proofs.junit_document.push_cases.Given as goal
 abbrev pub invariant-loop-finding : goal.invariant-loop-finding
 invariant-loop-finding l = record {
   counts : (name : List ℕ) → counted l.counts name ≡ named_among (pointed (take l.finding-index l.findings)) name;
-  written : string_bytes l.text ++ cases_after l.verdict (pointed (take l.finding-index l.findings)) (pointed (drop l.finding-index l.findings))
-      ≡ string_bytes l.fn.text ++ cases_after l.verdict [] (pointed l.findings);
+  written : string_bytes l.text ++ cases_after l.stopping (pointed (take l.finding-index l.findings)) (pointed (drop l.finding-index l.findings))
+      ≡ string_bytes l.fn.text ++ cases_after l.stopping [] (pointed l.findings);
 }

@@ -1,8 +1,8 @@
-use Rattle.std.proofs.Common.{◌≡◌, ◌++◌, drop, map, filter}
-use Rattle.sarif_shown.specs.Listed.{is_one, of_level}
+use Rattle.std.proofs.Common.{◌≡◌, ◌++◌, drop, map}
+use Rattle.sarif_shown.specs.Listed.{doing, of_level}
 use Rattle.sarif_shown.proofs.listing.push_level.Given as goal
 
 abbrev pub invariant-loop-finding : goal.invariant-loop-finding
 invariant-loop-finding l =
-    map (λ f. f.now) l.listed.items ++ of_level l.level (filter (is_one l.hit) (drop l.finding-index l.findings))
-    ≡ map (λ f. f.now) l.fn.listed.items ++ of_level l.level (filter (is_one l.hit) l.findings)
+    map (λ f. f.now) l.listed.items ++ of_level l.level (doing l.impact (drop l.finding-index l.findings))
+    ≡ map (λ f. f.now) l.fn.listed.items ++ of_level l.level (doing l.impact l.findings)

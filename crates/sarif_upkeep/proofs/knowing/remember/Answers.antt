@@ -12,7 +12,7 @@ use Rattle.sarif_known.specs.KnownLog.{known_log, known_text}
 use Rattle.sarif_known.specs.Laws.{CanBeRead}
 use Rattle.sarif_runs.specs.declared.run_options.RecordOptions.{RecordOptions}
 use Rattle.sarif_known.specs.Order.{known_runs}
-use Rattle.sarif_upkeep.specs.Heard.{tool_run}
+use Rattle.sarif_heard.specs.Heard.{tool_run}
 use Rattle.sarif_upkeep.specs.Known.{adopts, kept_before, known_now}
 use Rattle.sarif_upkeep.proofs.Taken.{before_fewer, before_same, gone_same, now_fewer, now_same, short_enough, too_long_is}
 use Rattle.sarif_upkeep.proofs.knowing.remember.Goals as goal

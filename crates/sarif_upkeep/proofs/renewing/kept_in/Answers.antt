@@ -4,7 +4,7 @@ use Rattle.std.proofs.lemmas.Result.{IfOk-weaker}
 use Rattle.sarif_results.specs.Drafts.{applied_of}
 use Rattle.sarif_accept.specs.Heard.{heard_of}
 use Rattle.sarif_accept.specs.Keeping.{is_kept}
-use Rattle.sarif_upkeep.specs.Heard.{heard, tool_run}
+use Rattle.sarif_heard.specs.Heard.{heard, tool_run}
 use Rattle.sarif_upkeep.specs.Renewed.{kept_in}
 use Rattle.sarif_upkeep.proofs.renewing.kept_in.Goals as goal
 

@@ -1,7 +1,7 @@
 use Rattle.std.proofs.Common.{◌≡◌, Err, refl, sym, subst}
 use Rattle.std.proofs.lemmas.Result.{err_from_is_err_and}
 use Rattle.std.specs.Prelude.{IfErr, option_map}
-use Rattle.sarif_merge.specs.Internal.Steps.{IsChangeIn, IsRejection}
+use Rattle.sarif_merge.specs.Internal.Steps.{IsChangeIn, IsPolicyIn, IsRejection}
 use Rattle.sarif_merge.proofs.StepFacts.{file_was_given, is_ready, judged_first, judged_second, rejected_life}
 use Rattle.sarif_merge.proofs.steps.Merging.prepare.Goals as goal
 
@@ -31,7 +31,9 @@ returns-in_err-prepared-clause-refused g c =
 pub returns-clause-prepared : goal.returns-clause-prepared
 returns-clause-prepared g c =
     let looked = subst (IsChangeIn c.args.self.now) (sym c.change_of.ensures) c.requires.change in
-    is_ready c.args.self.now (option_map (λ b. b.now) c.slice_of.result) c.args.files.now.file.now (option_map (λ b. b.now) c.change_of.result)
+    let asked = subst (IsPolicyIn c.args.self.now) (sym c.policy_of.ensures) c.requires.policy in
+    is_ready c.args.self.now (option_map (λ b. b.now) c.slice_of.result) c.args.files.now.file.now
+    (option_map (λ p. p.now.conditions) c.policy_of.result) (option_map (λ b. b.now) c.change_of.result)
     c.args.logs c.args.baselines c.in_ok-prepared.prepared
-    c.requires.file looked c.requires.logs c.requires.baselines c.slice_of.ensures c.in_ok-prepared.ensures.prepared c.in_ok-prepared.ensures.expired
+    c.requires.file asked looked c.requires.logs c.requires.baselines c.slice_of.ensures c.in_ok-prepared.ensures.prepared c.in_ok-prepared.ensures.expired
     c.in_ok-prepared.ensures.kept
