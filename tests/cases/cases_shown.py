@@ -887,7 +887,7 @@ def of_changes():
     wanted = {"markdown": has("1 run without results: ", last)}
     given["suppress"] = rules({"ruleId": "none"})
     logs = log({"tool": {"driver": {"name": "b"}}}, run("lint", on("out", "b.c", 2)))
-    yield report("what was not looked at of a change", logs, wanted, ["--diff", "d"], **given)
+    yield report("what was not checked in a change", logs, wanted, ["--diff", "d"], **given)
 
 
 def cases():

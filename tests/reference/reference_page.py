@@ -174,7 +174,7 @@ class PageOf:
         return {(state, level) for state in self.policy.states for level in LEVELS[least:]}
 
     def sentences(self):
-        """What wasn't looked at, as in Markdown."""
+        """What wasn't checked, as in Markdown."""
         return self.reports.notes()
 
     def conditions(self):

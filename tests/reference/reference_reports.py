@@ -484,7 +484,7 @@ class Reports:
         return [[str(it.get(name, "")) for name in names] for it in self.conditions() or []]
 
     def notes(self):
-        """Sentences on what wasn't looked at."""
+        """Sentences on what wasn't checked."""
         gate = at(self.log, "properties", "gate")
         without, unused = at(gate, "runsWithoutResults"), at(gate, "unusedSuppressions")
         runs = "runs without results: nothing is known of what they looked for."

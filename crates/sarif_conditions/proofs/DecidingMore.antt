@@ -166,7 +166,7 @@ decided_with conditions hits reported unchecked unused impacts known = record {
   known = known;
 }
 
--- what is said of the results at the end
+-- what the gate says about the results at the end
 abbrev told_by : Deciding → Decided
 told_by d = decided_with d.facts (count_by (λ (s : Standing). s.hit) d.standings) (count_by (λ (s : Standing). s.reported) d.standings)
     (count_by (λ (s : Standing). s.unchecked) d.standings) d.unused (map impact_in d.standings)

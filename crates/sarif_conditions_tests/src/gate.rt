@@ -77,7 +77,7 @@ fn two_conditions(alloc: Global) -> Result<PolicyFacts, AllocError> {
     })
 }
 
-/// Those counts as the gate object has them.
+/// Those counts in the form of the gate object.
 const COUNTS: &str =
     r#""counts":{"absent":{"active":[0,0,0,0],"suppressed":[0,0,0,0]},"new":{"active":[1,0,1,0],"suppressed":[0,0,0,0]},"unchanged":{"active":[0,0,0,0],"suppressed":[0,0,0,0]},"updated":{"active":[0,0,0,0],"suppressed":[0,0,0,0]}}"#;
 

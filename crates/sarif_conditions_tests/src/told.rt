@@ -36,7 +36,7 @@ pub fn new_error(rule: &str) -> Told<'_> {
     }
 }
 
-/// The same of level `note`.
+/// A new result of level `note`.
 pub fn new_note(rule: &str) -> Told<'_> {
     Told {
         level: Level::Note,
@@ -61,7 +61,7 @@ struct Finding<'a> {
     rating: Rating,
 }
 
-/// The rating that a text represents.
+/// The rating that a string represents.
 fn rating_of(alloc: Global, severity: Option<&str>) -> Result<Rating, AllocError> {
     match severity {
         None => Ok(Rating::Missing),

@@ -76,7 +76,7 @@ fn advice_on_policy(fault: Fault) -> &'static str {
         Fault::NoCondition => "add a condition; without one, the gate would always pass",
         Fault::BadFilter => "fix the filter, or validate the file against its JSON Schema",
         Fault::EmptyFilter => "add a member; without one, the filter would match every result",
-        Fault::SameName => "give each condition a name of its own",
+        Fault::SameName => "give each condition its own name",
         Fault::NeedsDiff => {
             "pass the diff of the change with --diff, or remove diff from the condition"
         }

@@ -52,7 +52,7 @@ pub(crate) enum Wanted {
     Limit,
     Condition,
     Today,
-    /// Of a policy.
+    /// In a policy.
     Policy(PolicyWanted),
     HitPlace,
     HitRule,

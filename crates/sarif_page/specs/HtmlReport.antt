@@ -124,7 +124,7 @@ mind sentence = codes "<p class=\"mind\">" ++ (sentence ++ codes "</p>\n")
 abbrev pub mind_if : ℕ → List ℕ → List ℕ
 mind_if n sentence = if n == 0 then [] else mind sentence
 
--- what wasn't looked at
+-- what wasn't checked
 unfoldable pub minds : Noted → List ℕ
 minds n =
     mind_if n.without (runs_text n.without) ++ (mind_if n.unused (entries_text n.unused)

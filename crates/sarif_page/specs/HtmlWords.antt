@@ -65,7 +65,7 @@ hit_is (state ∷ states) least change =
 unfoldable pub reason : Policy → Option ChangeFacts → List ℕ
 reason policy change = hit_is (listed_states policy.states) policy.fail_on change
 
--- the same with a policy, if there is one
+-- the reason with a policy, if there is one
 abbrev pub reason_by : Option PolicyFacts → Policy → Option ChangeFacts → List ℕ
 reason_by None policy change = reason policy change
 reason_by (Some ruling) policy change =
@@ -83,7 +83,7 @@ some_stop marked hits =
     hits_text hits ++ (codes ", "
     ++ counted marked (codes " of them stops this change") (codes " of them stop this change"))
 
--- the hits of a policy, of which so many stop the change
+-- the heading of the hits of a policy: their number, and how many of them stop the change
 abbrev pub marked_heading : ℕ → ℕ → List ℕ
 marked_heading marked hits =
     if marked == 0 then hits_text hits ++ codes ", within the limits"

@@ -61,7 +61,7 @@ counts_attributes marks =
     ++ (count_attributes marks New ++ (count_attributes marks Unchanged
     ++ (count_attributes marks Updated ++ count_attributes marks Absent))))
 
--- the sentences on what wasn't looked at
+-- the sentences on what wasn't checked
 abbrev pub minds_attributes : Noted → List Attribute
 minds_attributes n =
     mind_attributes n.without ++ (mind_attributes n.unused ++ (mind_attributes n.filters

@@ -200,7 +200,7 @@ fn push_unchecked(alloc: Global, text: &mut String, unchecked: u32) -> Result<()
     Ok(())
 }
 
-/// Adds the sentences on what wasn't looked at.
+/// Adds the sentences on what wasn't checked.
 #[tactic(auto, unfolding(crate::specs::HtmlReport::minds))]
 fn push_minds(alloc: Global, text: &mut String, numbers: &Noted) -> Result<(), AllocError>
     ensures { OnOk result

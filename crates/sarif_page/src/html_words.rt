@@ -138,7 +138,7 @@ fn all_stop(alloc: Global, hits: usize) -> Result<String, AllocError>
     )
 }
 
-/// The heading of hits of which some stop the change.
+/// The heading of hits if some of them stop the change.
 fn some_stop(alloc: Global, marked: usize, hits: usize) -> Result<String, AllocError>
     ensures { IfOk result (λ s. string_bytes s ≡ said.some_stop marked hits) }
 {

@@ -1,4 +1,4 @@
--- What a policy is told about both sides is the merge of their runs.
+-- What a policy reads about both sides is the merge of their runs.
 use Rattle.std.proofs.Common.{◌≡◌, ◌≤◌, List, [], ◌∷◌, Some, map, length, refl, sym, ap, subst, ◌∙◌}
 use Rattle.std.proofs.lemmas.List.{length-map}
 use Rattle.std.specs.List.{All}
@@ -38,14 +38,14 @@ all_there : (states : List State) → map state_in (map Some states) ≡ states
 all_there [] = refl
 all_there (state ∷ states) = ap (λ rest. state ∷ rest) (all_there states)
 
--- these are the results of the logs
+-- the results are those of the logs
 pub record AreOfLogs (c : Half) (p : Paired) (x : CurrentResults) : Type 0 where
   pub runs : x.runs.now ≡ c.runs.items
   pub records : x.records.now ≡ c.records.items
   pub drafts : x.drafts.now ≡ c.drafts.items
   pub states : x.states.now ≡ p.states.items
 
--- these are the results of the baselines
+-- the results are those of the baselines
 pub record AreOfBaselines (b : Baselines) (p : Paired) (x : LeftResults) : Type 0 where
   pub runs : x.runs.now ≡ b.runs.items
   pub spots : x.spots.now ≡ b.spots.items

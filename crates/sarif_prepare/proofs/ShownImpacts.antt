@@ -28,7 +28,7 @@ all_are_shown reporting Unchanged level = refl
 all_are_shown reporting Updated level = refl
 all_are_shown reporting Absent level = refl
 
--- a result is told by whether it is active
+-- the finding of a result depends on whether it is active
 told_active : (reporting : Reporting) (run d : Data) (draft : Draft) (state : State) (suppressed : Bool) → draft.suppressed ≡ suppressed
     → told_as (of_all reporting) run d draft (Some state)
     ≡ (if not suppressed then Some (finding_of (of_all reporting) run d draft.level state) else None)

@@ -57,7 +57,7 @@ active_as (r ∷ rs) (x ∷ xs) [] seen = tt
 active_as (r ∷ rs) (x ∷ xs) (d ∷ ds) [] = tt
 active_as (r ∷ rs) (x ∷ xs) (d ∷ ds) (one ∷ seen) = (refl, active_as rs xs ds seen)
 
--- what is told of the results of logs, and of those that are left of baselines, put together
+-- the findings of the results of logs, followed by those of the results that are left of baselines
 module _ (show : Show) (reporting : Reporting) (cs : List GateCondition) (m : Matched) where
   abbrev does : Judged → Option Impact
   does = impact_of cs (results_in cs m)
@@ -251,7 +251,7 @@ module _ (v : MatchingVersion) (file : File) (now before : List Placed) (c : Hal
         ++ told_each (of_all reporting) others p.left.items ss)) (absent_states p.left.items)
         ∙ ap (told_with show (active_impacts cs m)) (sides_told v (Some (of_all reporting)) file now before c b p h q)
 
--- each result has its impact, whatever conditions there are
+-- each result has its impact, for all conditions
 pub decided_many : (v : MatchingVersion) (file : File) (now before : List Placed) (c : Half) (b : Baselines) (p : Paired)
     → AreTogether file now before c b → IsPaired v c b p → (change : Option GatedChange) (conditions : Option (List GateCondition)) (ruling : Decided)
     → Some ruling ≡ decided_by conditions (matched_in v file change now before)

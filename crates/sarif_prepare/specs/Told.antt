@@ -56,7 +56,7 @@ abbrev pub with_impact : Option Impact → Finding → Option Finding
 with_impact None found = None
 with_impact (Some impact) found = Some (record found { impact = impact })
 
--- the findings that are shown of these, each with what it does to the gate
+-- the findings among these that are shown, each with what it does to the gate
 abbrev pub told_with : Show → List (Option Impact) → List Finding → List Finding
 told_with show [] found = []
 told_with show (impact ∷ impacts) [] = []

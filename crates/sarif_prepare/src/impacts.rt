@@ -64,7 +64,7 @@ fn shown_by(show: Show, impact: Option<Impact>) -> Option<Impact>
     }
 }
 
-/// The same for each result.
+/// Returns, for each result, what its finding says it does to the gate, or `None` if it isn't shown.
 fn list_shown(
     alloc: Global,
     show: Show,

@@ -95,7 +95,7 @@ outside_few None h = omega arith
 outside_few (Some facts) h =
     line_few 52 facts.outside _ (counted_few 10 42 facts.outside _ _ (ten facts.outside h) (omega arith) (omega arith))
 
--- the numbers of what wasn't looked at have 32 bits
+-- the numbers of what wasn't checked have 32 bits
 pub record AreFew (n : Noted) : Type 0 where
   pub without : n.without < 2 ^ 32
   pub unused : n.unused < 2 ^ 32

@@ -31,7 +31,7 @@ use Rattle.sarif_reports.proofs.RowsApart.{tabled_rows}
 use Rattle.sarif_reports.proofs.TableRows.{rows_short}
 use Rattle.sarif_reports.proofs.Tabled.{IsTabled, all_tabled}
 
--- ---- what is true of a finding, whatever it does to the gate
+-- ---- what is true of a finding, regardless of what it does to the gate
 
 retold : (g : Finding) (i : Impact) → IsTold g → IsTold (record g { impact = i })
 retold g i told =

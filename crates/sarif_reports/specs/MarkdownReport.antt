@@ -48,7 +48,7 @@ counts_table count =
     ++ (count_row Updated (count Updated)
     ++ count_row Absent (count Absent))))
 
--- ---- what wasn't looked at
+-- ---- what wasn't checked
 
 -- a line, if there is a number to say something about
 abbrev pub line_if : ℕ → List ℕ → List ℕ

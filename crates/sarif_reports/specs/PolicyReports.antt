@@ -9,7 +9,7 @@ use Rattle.sarif_shown.specs.Listed.{listed}
 use Rattle.sarif_shown.specs.declared.stopping.Stopping.TheVariants.{MarkedHit}
 use Rattle.sarif_reports.specs.JunitReport.{junit_document}
 
--- the finding of a result of this log, made in this way but for what it does to the gate
+-- the finding of a result of this log, made in this way except for what it does to the gate
 abbrev pub IsFindingOf : Reporting → Data → Finding → Type 0
 IsFindingOf reporting log f =
     (g : Finding) × Contains (reported_of reporting log) g × (f ≡ record g { impact = f.impact })

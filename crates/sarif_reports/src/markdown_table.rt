@@ -626,7 +626,7 @@ fn push_accept(alloc: Global, text: &mut String, hits: u32) -> Result<(), AllocE
     Ok(())
 }
 
-/// Returns the lines on what wasn't looked at.
+/// Returns the lines on what wasn't checked.
 fn notes_of(alloc: Global, numbers: &Noted) -> Result<String, AllocError>
     ensures { IfOk result (λ s. string_bytes s ≡ said.notes numbers.now) }
 {
@@ -638,7 +638,7 @@ fn notes_of(alloc: Global, numbers: &Noted) -> Result<String, AllocError>
     format!(in alloc; "{without}{unused}{filters}{outside}{unchecked}")
 }
 
-/// Adds the lines on what wasn't looked at, if there are any.
+/// Adds the lines on what wasn't checked, if there are any.
 fn push_notes(alloc: Global, text: &mut String, numbers: &Noted) -> Result<(), AllocError>
     ensures { OnOk result (string_bytes text.new
         ≡ string_bytes text.old ++ said.paragraph (said.notes numbers.now)) }
@@ -648,7 +648,7 @@ fn push_notes(alloc: Global, text: &mut String, numbers: &Noted) -> Result<(), A
     Ok(())
 }
 
-/// Returns the report for job summaries and comments on a change: the verdict, the counts, what wasn't looked at, with a
+/// Returns the report for job summaries and comments on a change: the verdict, the counts, what wasn't checked, with a
 /// policy a table of its conditions, and a table of the first listed results: at most 200, whose rows take at most 60,000
 /// bytes together with those of the conditions. Rules link to their pages and places to their addresses; the rows of the
 /// first 20 hits have a line of code. The whole report has at most 61,000 bytes, or 61,100 if the gate checks a change, or

@@ -207,8 +207,8 @@ No condition checks 5 active results.
     Ok(())
 }
 
-/// Six results, of which the first and the second are hits of a condition that passes, the third is one of a condition that
-/// fails, and the fifth is one of another condition that passes.
+/// Six results: the first and the second are hits of a condition that passes, the third is a hit of a condition that fails,
+/// and the fifth is a hit of another condition that passes.
 fn six_results(alloc: Global) -> Result<Vec<Finding>, AllocError> {
     let mut findings = Vec::new(alloc);
     findings.push(finding(alloc, "N1", "N1", Level::Note, Impact::Hit)?)?;
@@ -339,7 +339,7 @@ fn rows_of_conditions_count_among_the_bytes(rt: HostRuntime) -> Result<(), Fail>
     Ok(())
 }
 
-/// A result with a path of so many characters of four bytes, and with a rule and a message of 1,000 marks.
+/// A result with a path of `characters` characters of four bytes, and with a rule and a message of 1,000 marks.
 fn large_result(alloc: Global, characters: u32) -> Result<Finding, AllocError> {
     let marks = repeated(alloc, "~", 1_000)?;
     let path = repeated(alloc, "\u{10000}", characters)?;

@@ -143,7 +143,7 @@ is_set name rows = option_map_or (λ text. bytes_eq text (codes "true")) (first_
 abbrev pub is_given : Text → List Row → Bool
 is_given name rows = is_some (first_of name rows)
 
--- where the value of an argument comes from, if it has one
+-- the source of the value of an argument, if it has one
 abbrev pub source_of : Text → List Row → Option ValueSource
 source_of name rows =
     option_and_then (λ row. row.source) (find (λ row. bytes_eq row.id name) rows)

@@ -9,7 +9,7 @@ use Rattle.sarif_counts.specs.Hits.{verdict_name}
 abbrev pub cell : List ℕ → List ℕ → List ℕ → List ℕ
 cell before after text = before ++ (text ++ after)
 
--- how many results outside of the change would be hits; nothing for a condition that doesn't ask for the change
+-- how many results outside of the change would be hits; nothing for a condition that doesn't require the change
 abbrev pub outside_number : Option ℕ → List ℕ
 outside_number None = []
 outside_number (Some n) = decimal n

@@ -1,6 +1,6 @@
 -- The order in which reports list the reported results of a merged log: the hits first, those that stop the change before
--- the others, then the other results. Of each of these the worst level is first, and within a level the order is that of
--- the log.
+-- the others, then the other results. In each group the worst level is first, and within a level the order is that of the
+-- log.
 use Rattle.std.specs.Prelude.{ℕ, Bool, List, ◌++◌, ◌==◌}
 use Rattle.std.specs.List.{filter}
 use Rattle.sarif_model.specs.declared.kinds.Level.{Level}

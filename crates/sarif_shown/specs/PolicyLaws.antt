@@ -20,7 +20,7 @@ reported_impacts cs rs = filter_map (impact_of cs rs) rs
 abbrev pub shown_impacts : Show → List GateCondition → List Judged → List Impact
 shown_impacts show cs rs = filter (λ impact. is_among show (is_hit impact)) (reported_impacts cs rs)
 
--- these are the findings of the shown results, and each says what its result does to the gate
+-- the findings are those of the shown results, and each says what its result does to the gate
 abbrev pub AreRuled : Show → List GateCondition → List Judged → List Finding → Type 0
 AreRuled show cs rs findings =
     map (λ (f : Finding). f.impact) findings ≡ shown_impacts show cs rs

@@ -47,7 +47,7 @@ abbrev pub most_of_ending : Option PolicyFacts → ℕ
 most_of_ending None = 47
 most_of_ending (Some ruling) = 81
 
--- ---- of a merge with these facts
+-- ---- what reports say about a merge with these facts
 
 abbrev pub gate_verdict : Facts → Verdict
 gate_verdict facts =
@@ -71,7 +71,7 @@ unshown_results facts =
     unshown_ruled facts.ruling facts.show
     (unshown_number facts.change facts.show facts.count facts.policy)
 
--- the numbers of what wasn't looked at
+-- the numbers of what wasn't checked
 abbrev pub noted_in : Facts → Noted
 noted_in facts = record {
   without = facts.without;

@@ -1,6 +1,6 @@
-//! What a merge did not look at.
+//! What a merge did not check.
 
-/// The numbers of the sentences on what a merge did not look at. There is a sentence on each that isn't 0.
+/// The numbers of the sentences on what a merge did not check. There is a sentence on each that isn't 0.
 #[derive(Clone, Copy, Debug, PartialEq, Eq)]
 pub struct Noted {
     /// How many input runs have no results.

@@ -115,7 +115,7 @@ pub fn unshown_results(told: &ReportInput<'_>) -> u32
     }
 }
 
-/// Returns the numbers of what wasn't looked at.
+/// Returns the numbers of what wasn't checked.
 pub fn noted_in(told: &ReportInput<'_>) -> Noted
     ensures { result ≡ said.noted_in (facts_of told.now) }
 {

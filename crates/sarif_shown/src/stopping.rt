@@ -7,11 +7,11 @@ use sarif_counts::Impact;
 /// Which hits stop the change.
 #[derive(Clone, Copy, Debug, PartialEq, Eq)]
 pub enum Stopping {
-    /// All of them. Without a policy that is so if there are more than allowed.
+    /// All of them. Without a policy it is so if there are more than allowed.
     EachHit,
-    /// None of them. Without a policy that is so if there are no more than allowed.
+    /// None of them. Without a policy it is so if there are no more than allowed.
     NoHit,
-    /// Those of conditions that fail. With a policy that is so.
+    /// The hits of conditions that fail. It is so with a policy.
     MarkedHit,
 }
 

@@ -246,7 +246,7 @@ fn conditions_have_names_of_their_own_and_the_diff_that_they_need(
   where: /conditions/1/name
   found: "a"
   wanted: a name that no earlier condition has
-  advice: give each condition a name of its own
+  advice: give each condition its own name
 "#,
         ),
         (
