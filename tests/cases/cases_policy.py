@@ -281,6 +281,72 @@ def snippets():
 # ---- Bad policies, and their place among the errors
 
 
+# ---- For later merges
+
+
+def kept(name, conditions, results, line, words, status=1, **wanted):
+    """A merge of these results with these conditions that also writes a file for later merges: its line on standard error."""
+    files = {"a.sarif": log(run("lint", *results)), "p": policy(*conditions), **wanted.pop("files", {})}
+    words = ["--out", "o", "--policy", "p", *words, "a.sarif"]
+    return Case("policy", name, words, files=files, status=status, stderr=f"sarif_gate: {line}\n".encode(), **wanted)
+
+
+def accepting():
+    """Exactly the hits of conditions are accepted, and those within a limit too."""
+    three = [error("R1"), error("R2"), error("R3")]
+    only = [condition("one", only=[{"ruleId": "R1"}], max=1), condition("two", only=[{"ruleId": "R2"}])]
+    accept = ["--suppress-out", "n", "--accept"]
+    rules = lambda folder, kept: [it["ruleId"] for it in json.loads((folder / "n").read_text())["suppressions"]]
+    look = lambda folder, kept: [f"accepted: {rules(folder, kept)}"] * (rules(folder, kept) != ["R1", "R2"])
+    yield kept("accepting hits of conditions", only, three, "2 accepted, 0 stay, 0 pruned, 2 entries", accept, look=look)
+    twice = [*three[:2], error("R3", level="note")]
+    none = [condition("none", only=[{"ruleId": "R9"}]), condition("notes", level="note", only=[{"ruleId": "R3"}])]
+    yield kept("accepting what no option makes a hit", none, twice, "1 accepted, 0 stay, 0 pruned, 1 entries", accept)
+    quiet = error("R1", suppressions=[{"kind": "external", "status": "rejected"}])
+    stays = [condition("one", only=[{"ruleId": "R1"}])]
+    yield kept("accepting a hit with suppressions", stays, [quiet, *three[1:]], "0 accepted, 1 stay, 0 pruned, 0 entries", accept)
+    absent = {"files": {"b": log(run("lint", error("O1"), error("O2")))}}
+    gone = [condition("gone", states=["absent", "new"], only=[{"ruleId": "O1"}, {"ruleId": "R1"}])]
+    words = [*accept, "--baseline", "b"]
+    yield kept("accepting with absent hits", gone, three, "1 accepted, 1 stay, 0 pruned, 1 entries", words, **absent)
+    for scope, inside in (("lines", 1), ("files", 3)):
+        line = f"{inside} accepted, 0 stay, 0 pruned, 1 entries"
+        change = [condition("change", diff=scope)]
+        yield kept(f"accepting in the change by {scope}", change, FOUR, line, [*accept, "--diff", "d"], files={"d": D})
+
+
+def choosing():
+    """A place and a rule are those of hits of conditions."""
+    three = [error(rule, locations=[place(*at)]) for rule, at in (("R1", ("a.c", 3)), ("R2", ("a.c", 3)), ("R2", ("b.c", 9)))]
+    only = [condition("two", only=[{"ruleId": "R2"}])]
+    accept = ["--suppress-out", "n", "--accept"]
+    yield kept("a place of hits", only, three, "1 accepted, 0 alike, 1 stay, 0 pruned, 1 entries", [*accept, "--at", "a.c:3"])
+    yield kept("a rule of hits", only, three, "2 accepted, 0 alike, 0 stay, 0 pruned, 2 entries", [*accept, "--rule", "R2"])
+    for words, fault in ((["--rule", "R1"], "--rule 0: NoHit"), (["--at", "b.c:9", "--at", "c.c"], "--at 1: NoHit")):
+        look = lambda folder, kept: [f"{it} was written" for it in "no" if (folder / it).exists()]
+        wanted = {"status": 2, "stdout": b"", "look": look}
+        yield kept(f"no hit for {' '.join(words)}", only, three, fault, [*accept, *words], **wanted)
+    absent = {"files": {"b": log(run("lint", error("O1", locations=[place("o.c", 1)])))}}
+    gone = [condition("gone", states=["absent", "new"])]
+    words = [*accept, "--baseline", "b", "--at", "o.c:1"]
+    yield kept("a place of an absent hit", gone, three, "0 accepted, 0 alike, 4 stay, 0 pruned, 0 entries", words, **absent)
+
+
+def knowing():
+    """New hits of conditions don't become known, with a diff and without it; other new results do."""
+    three = [error("R1"), error("R2"), error("R3", level="note")]
+    only = [condition("one", only=[{"ruleId": "R1"}], max=9)]
+    known = ["--known", "k"]
+    yield kept("knowing what no condition makes a hit", only, three, "2 known, 1 left out, 0 kept", known, 0)
+    yield kept("adopting hits of conditions", only, three, "3 known, 0 left out, 0 kept", [*known, "--adopt"], 0)
+    notes = [condition("notes", level="note", max=9)]
+    yield kept("knowing less than without a policy", notes, three, "0 known, 3 left out, 0 kept", known, 0)
+    change = [condition("change", diff="lines", level="none", max=9)]
+    yield kept("knowing with a diff", change, FOUR, "0 known, 4 left out, 0 kept", [*known, "--diff", "d"], 0, files={"d": D})
+    before = {"files": {"b": log(run("lint", error("R1"), error("O1"))), "d": D}}
+    yield kept("knowing what was known", only, three, "3 known, 0 left out, 0 kept", [*known, "--baseline", "b"], 0, **before)
+
+
 def bad(name, given, fault, words=(), **wanted):
     """A policy file that is rejected. No output is written."""
     files = {"a.sarif": log(run("lint")), "p": given, **wanted.pop("files", {})}
@@ -401,6 +467,7 @@ def arguments():
 
 
 def cases():
-    shapes = (one, several, listed, long, ratchets, severities, changes, copies, snippets, faults, filters, order, arguments)
+    shapes = (one, several, listed, long, ratchets, severities, changes, copies, snippets)
+    shapes = (*shapes, accepting, choosing, knowing, faults, filters, order, arguments)
     for part in shapes:
         yield from part()

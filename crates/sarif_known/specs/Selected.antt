@@ -1,5 +1,5 @@
 -- Which results become known.
-use Rattle.std.specs.Prelude.{Bool, true, false, not, ◌&&◌, ◌||◌, List, [], ◌∷◌}
+use Rattle.std.specs.Prelude.{Bool, true, false, not, ◌&&◌, ◌||◌, List, [], ◌∷◌, unwrap_or}
 use Rattle.sarif_model.specs.declared.record.Record.{Record}
 use Rattle.sarif_model.specs.declared.kinds.State.{State}
 use Rattle.sarif_model.specs.declared.kinds.State.TheVariants.{New, Unchanged, Updated, Absent}
@@ -13,9 +13,12 @@ use Rattle.sarif_known.specs.declared.standing.Standing.{Standing}
 abbrev pub is_accepted_for_now : File → Record → Bool
 is_accepted_for_now file r = is_suppressed file r && not (is_suppressed (lasting file) r)
 
--- a hit, or suppressed
-abbrev pub is_hit_or_suppressed : File → Policy → Record → State → Bool
-is_hit_or_suppressed file policy r state = is_suppressed file r || may_hit policy r state
+-- a hit, or suppressed; with a policy a hit of one of its conditions, or what would be one inside the change
+abbrev pub would_hit : Policy → Record → Standing → Bool
+would_hit policy r standing = unwrap_or standing.would_hit (may_hit policy r standing.state)
+
+abbrev pub is_hit_or_suppressed : File → Policy → Record → Standing → Bool
+is_hit_or_suppressed file policy r standing = is_suppressed file r || would_hit policy r standing
 
 abbrev pub is_new : State → Bool
 is_new New = true
@@ -32,7 +35,7 @@ may_be_new standing = is_new standing.state || standing.doubtful
 abbrev pub is_left_out : File → Policy → Bool → Record → Standing → Bool
 is_left_out file policy adopt r standing =
     is_accepted_for_now file r
-    || (not adopt && (may_be_new standing && is_hit_or_suppressed file policy r standing.state))
+    || (not adopt && (may_be_new standing && is_hit_or_suppressed file policy r standing))
 
 abbrev pub keep_unless : {A : Type 0} → Bool → A → List A → List A
 keep_unless true x xs = xs

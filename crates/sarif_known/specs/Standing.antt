@@ -1,4 +1,4 @@
--- What matching says about a current result.
+-- What matching says about a current result, without a policy.
 use Rattle.std.specs.Prelude.{Bool, false, not, Option, Some, None}
 use Rattle.sarif_model.specs.declared.record.Record.{Record}
 use Rattle.sarif_evidence.specs.declared.version.MatchingVersion.{MatchingVersion}
@@ -19,4 +19,5 @@ standing_of version current partner =
     record {
       state = state_in version current partner;
       doubtful = is_doubtful version current partner;
+      would_hit = None;
     }

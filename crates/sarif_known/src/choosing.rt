@@ -31,7 +31,7 @@ pub struct Choice<'a> {
 pub struct Results<'a, 's> {
     /// Their records.
     pub records: &'a [Record],
-    /// What matching says about each.
+    /// What matching and a policy say about each.
     pub standings: &'s [Standing],
     /// What is written for each of them.
     pub drafts: &'s [Draft],
@@ -42,6 +42,16 @@ fn may_be_new(standing: Standing) -> bool
     ensures { result ≡ said.may_be_new standing }
 {
     standing.state == State::New || standing.doubtful
+}
+
+/// Whether a result is a hit, or would be one inside the change: of a condition if there is a policy, otherwise by the options.
+fn would_hit(policy: Policy, found: &Record, standing: Standing) -> bool
+    ensures { result ≡ said.would_hit policy found.now standing }
+{
+    match standing.would_hit {
+        Some(hit) => hit,
+        None => policy.counts(standing.state, found.level),
+    }
 }
 
 /// Whether a current result doesn't become known.
@@ -57,7 +67,7 @@ fn is_left_out(choice: &Choice<'_>, found: &Record, standing: Standing, applied:
     if choice.adopt || !may_be_new(standing) {
         return false;
     }
-    applied.suppressed || choice.policy.counts(standing.state, found.level)
+    applied.suppressed || would_hit(choice.policy, found, standing)
 }
 
 /// Returns which results of a run of a log become known: those that aren't suppressed thanks to entries with an

@@ -6,9 +6,8 @@ use Rattle.sarif_model.specs.declared.kinds.State.TheVariants.{New, Unchanged, U
 use Rattle.sarif_options.specs.declared.policy.Policy.{Policy}
 use Rattle.sarif_entries.specs.File.{File}
 use Rattle.sarif_suppress.specs.Suppressing.{is_suppressed, lasting}
-use Rattle.sarif_accept.specs.Adding.{may_hit}
 use Rattle.sarif_known_laws.specs.JustKnown.{StaysOut}
-use Rattle.sarif_known.specs.Selected.{is_left_out, is_new, keep_unless, known_of, may_be_new}
+use Rattle.sarif_known.specs.Selected.{is_left_out, is_new, keep_unless, known_of, may_be_new, would_hit}
 use Rattle.sarif_known.specs.declared.standing.Standing.{Standing}
 
 or_true : (b : Bool) → (b || true) ≡ true
@@ -46,15 +45,15 @@ new_or Absent doubtful is = inr is
 module _ (file : File) (policy : Policy) (adopt : Bool) (r : Record) (s : Standing) where
   left_out : StaysOut file policy adopt r s → is_left_out file policy adopt r s ≡ true
   left_out (inl why) =
-      out_if (is_suppressed file r) (is_suppressed (lasting file) r) adopt (may_be_new s) (may_hit policy r s.state) (inl (why.now, why.later))
-  left_out (inr why) = out_if (is_suppressed file r) (is_suppressed (lasting file) r) adopt (may_be_new s) (may_hit policy r s.state)
+      out_if (is_suppressed file r) (is_suppressed (lasting file) r) adopt (may_be_new s) (would_hit policy r s) (inl (why.now, why.later))
+  left_out (inr why) = out_if (is_suppressed file r) (is_suppressed (lasting file) r) adopt (may_be_new s) (would_hit policy r s)
       (inr (why.adopted, may_be s why.fresh, why.stops))
 
   taken : (StaysOut file policy adopt r s → ⊥) → is_left_out file policy adopt r s ≡ false
-  taken none = in_if (is_suppressed file r) (is_suppressed (lasting file) r) adopt (may_be_new s) (may_hit policy r s.state) by
+  taken none = in_if (is_suppressed file r) (is_suppressed (lasting file) r) adopt (may_be_new s) (would_hit policy r s) by
     where
       by : ((is_suppressed file r ≡ true) × (is_suppressed (lasting file) r ≡ false)) ⊎
-          ((adopt ≡ false) × (may_be_new s ≡ true) × ((is_suppressed file r ≡ true) ⊎ (may_hit policy r s.state ≡ true))) → ⊥
+          ((adopt ≡ false) × (may_be_new s ≡ true) × ((is_suppressed file r ≡ true) ⊎ (would_hit policy r s ≡ true))) → ⊥
       by (inl (now, later)) = none (inl (record { now = now; later = later }))
       by (inr (adopted, fresh, stops)) = none (inr (record { adopted = adopted; fresh = new_or s.state s.doubtful fresh; stops = stops }))
 

@@ -5,7 +5,7 @@ use Rattle.sarif_model.specs.declared.kinds.State.TheVariants.{New}
 use Rattle.sarif_options.specs.declared.policy.Policy.{Policy}
 use Rattle.sarif_entries.specs.File.{File}
 use Rattle.sarif_suppress.specs.Suppressing.{is_suppressed, lasting}
-use Rattle.sarif_accept.specs.Adding.{may_hit}
+use Rattle.sarif_known.specs.Selected.{would_hit}
 use Rattle.sarif_known.specs.declared.standing.Standing.{Standing}
 
 -- suppressed, but only by entries that have an expiry date
@@ -18,7 +18,7 @@ pub record IsNewAndStops (file : File) (policy : Policy) (adopt : Bool) (r : Rec
     (standing : Standing) : Type 0 where
   pub adopted : adopt ≡ false
   pub fresh : (standing.state ≡ New) ⊎ (standing.doubtful ≡ true)
-  pub stops : (is_suppressed file r ≡ true) ⊎ (may_hit policy r standing.state ≡ true)
+  pub stops : (is_suppressed file r ≡ true) ⊎ (would_hit policy r standing ≡ true)
 
 -- the result doesn't become known
 abbrev pub StaysOut : File → Policy → Bool → Record → Standing → Type 0

@@ -64,18 +64,18 @@ pub fn without_a_diff_all_hits_count()
         ≡ verdict_of (count_of (log.runs_counted inputs)) policy }
 {}
 
-/// A diff changes neither the known log nor the list of unused entries, nor the new suppression file if no hits are
-/// accepted: only accepting depends on the hits of the gate.
+/// Without a policy, a diff changes neither the known log nor the list of unused entries, nor the new suppression file if no
+/// hits are accepted: only accepting depends on the hits of the gate.
 pub fn a_diff_changes_no_known_log()
     ensures known { (inputs : Inputs) (policy : Policy) (choice : Option Choosing)
-        (knowing : Knowing)
+        (knowing : Knowing) → inputs.policy ≡ None
         → remembered (merge_counted inputs policy choice) knowing
         ≡ remembered (merge_counted (without_diff inputs) policy choice) knowing }
     ensures unused { (inputs : Inputs) (policy : Policy) (choice : Option Choosing)
-        → life.unused_in (merge_counted inputs policy choice)
+        → inputs.policy ≡ None → life.unused_in (merge_counted inputs policy choice)
         ≡ life.unused_in (merge_counted (without_diff inputs) policy choice) }
     ensures pruned { (inputs : Inputs) (policy : Policy) (choice : Option Choosing)
-        (renewal : Renewal) → renewal.accept ≡ false
+        (renewal : Renewal) → inputs.policy ≡ None → renewal.accept ≡ false
         → renewed (merge_counted inputs policy choice) renewal
         ≡ renewed (merge_counted (without_diff inputs) policy choice) renewal }
 {}

@@ -23,13 +23,15 @@ use Rattle.sarif_suppress.specs.Suppressing.{unused_of}
 use Rattle.sarif_once.specs.Once.{copy_marks, without_copies}
 use Rattle.sarif_log.specs.LogBy.{current_runs, limited_records, runs_by, runs_without_results}
 use Rattle.sarif_prepare.specs.By.{counted_if, runs_counted_if}
-use Rattle.sarif_prepare.specs.Chosen.{chosen_merge, hits_alone, marks_in, misfit_in, with_choice}
+use Rattle.sarif_policy.specs.declared.condition.GateCondition.{GateCondition}
+use Rattle.sarif_prepare.specs.Chosen.{chosen_merge, hits_alone, marks_by, marks_in, misfit_by, ruled_merge, with_choice}
+use Rattle.sarif_prepare.specs.Ruled.{decided_by, matched_in}
 use Rattle.sarif_prepare.specs.Kept.{merge_of}
 use Rattle.sarif_prepare.proofs.Expired.{all_expired}
 use Rattle.sarif_inputs.specs.Faults.{faults_of}
 use Rattle.sarif_inputs.specs.Inputs.{Inputs, baseline_runs, input_runs, looks_at_regions}
 use Rattle.sarif_merge.specs.Life.{merge_counted}
-use Rattle.sarif_merge.specs.MergedLog.{change_given, file_given, limited_of, runs_counted, unused_counted}
+use Rattle.sarif_merge.specs.MergedLog.{change_given, conditions_given, file_given, limited_of, runs_counted, unused_counted}
 use Rattle.sarif_laws_once.specs.TakenOut.{AreWithoutCopies, HasSameFindings, counting_each, if_each_counts}
 use Rattle.sarif_laws_once.specs.WithoutPlaces.{log_without_copies}
 use Rattle.sarif_laws_once.proofs.ReadWithout.{none_there, runs_before, runs_now}
@@ -59,17 +61,27 @@ knows_each : (v : MatchingVersion) → knows_regions v false ≡ looks_at_region
 knows_each Two = refl
 knows_each Three = refl
 
-chosen_each : (checks : Checks) (file : File) (bytes : Option (List ℕ)) (change : Option GatedChange) (policy : Policy) (choice : Option Choosing)
-    (current baseline : List Placed)
-    → chosen_merge (record checks { once = false }) file bytes change policy choice current baseline
-    ≡ record (chosen_merge checks file bytes change policy choice current baseline) { once = false; regions = looks_at_regions checks.matching }
-chosen_each checks file bytes change policy None current baseline =
+chosen_each : (conditions : Option (List GateCondition)) (checks : Checks) (file : File) (bytes : Option (List ℕ)) (change : Option GatedChange)
+    (policy : Policy) (choice : Option Choosing) (current baseline : List Placed)
+    → chosen_merge conditions (record checks { once = false }) file bytes change policy choice current baseline
+    ≡ record (chosen_merge conditions checks file bytes change policy choice current baseline) { once = false; regions = looks_at_regions checks.matching }
+chosen_each None checks file bytes change policy None current baseline =
     (λ i. record (merge_of checks file bytes change policy current baseline) { regions = knows_each checks.matching i })
-chosen_each checks file bytes change policy (Some choosing) current baseline =
+chosen_each None checks file bytes change policy (Some choosing) current baseline =
     let hits = hits_alone policy choosing.roots in
     (λ i. with_choice (record (merge_of checks file bytes change policy current baseline) { regions = knows_each checks.matching i })
     (Some (marks_in change hits choosing.choice (current_runs checks.matching file current baseline)))
-    (misfit_in change hits choosing.choice (runs_by checks.matching file current baseline)))
+    (misfit_by None (matched_in checks.matching file change current baseline) hits choosing.choice (runs_by checks.matching file current baseline)))
+chosen_each (Some cs) checks file bytes change policy None current baseline =
+    (λ i. ruled_merge (decided_by (Some cs) (matched_in checks.matching file change current baseline))
+    (record (merge_of checks file bytes change policy current baseline) { regions = knows_each checks.matching i }))
+chosen_each (Some cs) checks file bytes change policy (Some choosing) current baseline =
+    let m = matched_in checks.matching file change current baseline in
+    let hits = hits_alone policy choosing.roots in
+    (λ i. with_choice (ruled_merge (decided_by (Some cs) m)
+    (record (merge_of checks file bytes change policy current baseline) { regions = knows_each checks.matching i }))
+    (Some (marks_by (decided_by (Some cs) m) change hits choosing.choice (current_runs checks.matching file current baseline)))
+    (misfit_by (Some cs) m hits choosing.choice (runs_by checks.matching file current baseline)))
 
 module _ (inputs : Inputs) (logs baselines : List (List ℕ)) (none : faults_of inputs ≡ []) (once : inputs.checks.once ≡ true)
     (regions : (inputs.snippets || looks_at_regions inputs.checks.matching) ≡ true) (read : AreWithoutCopies inputs logs baselines) where
@@ -96,10 +108,10 @@ module _ (inputs : Inputs) (logs baselines : List (List ℕ)) (none : faults_of 
   pub later_same : (policy : Policy) (choice : Option Choosing)
       → merge_counted (counting_each inputs logs baselines) policy choice ≡ if_each_counts inputs (merge_counted inputs policy choice)
   later_same policy choice =
-      ap₂ (chosen_merge other.checks (file_given inputs) inputs.suppressions (change_given inputs) policy choice) same_now same_before
-      ∙ chosen_each inputs.checks (file_given inputs) inputs.suppressions (change_given inputs) policy choice (without_copies now) (without_copies before)
+      ap₂ (chosen_merge (conditions_given inputs) other.checks (file_given inputs) inputs.suppressions (change_given inputs) policy choice) same_now same_before
+      ∙ chosen_each (conditions_given inputs) inputs.checks (file_given inputs) inputs.suppressions (change_given inputs) policy choice (without_copies now) (without_copies before)
       ∙ sym (ap (λ b. if_each_counts inputs
-      (chosen_merge inputs.checks (file_given inputs) inputs.suppressions (change_given inputs) policy choice (counted_if b now) (counted_if b before))) once)
+      (chosen_merge (conditions_given inputs) inputs.checks (file_given inputs) inputs.suppressions (change_given inputs) policy choice (counted_if b now) (counted_if b before))) once)
 
   unused_same : unused_counted other ≡ unused_counted inputs
   unused_same =

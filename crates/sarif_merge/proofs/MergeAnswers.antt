@@ -59,21 +59,21 @@ same_runs v file now before xs ys change policy conditions asked prepared h e f 
     (subst (λ k. IsPreparedBy v file k before change policy conditions asked prepared) e h)
 
 -- what is for later merges, of the same runs
-pub same_kept : (v : Checks) (file : File) (bytes : Option (List ℕ)) (change : Option GatedChange) (policy : Policy) (choice : Option Choosing)
+pub same_kept : (conditions : Option (List GateCondition)) (v : Checks) (file : File) (bytes : Option (List ℕ)) (change : Option GatedChange) (policy : Policy) (choice : Option Choosing)
     (now before xs ys : List Placed) (upkeep : Option Upkeep) (life : Life)
-    → IsKept (merge_by v file bytes change policy choice now before) upkeep life → now ≡ xs → before ≡ ys
-    → IsKept (merge_by v file bytes change policy choice xs ys) upkeep life
-same_kept v file bytes change policy choice now before xs ys upkeep life h e f =
-    subst (λ k. IsKept (merge_by v file bytes change policy choice xs k) upkeep life) f
-    (subst (λ k. IsKept (merge_by v file bytes change policy choice k before) upkeep life) e h)
+    → IsKept (merge_by conditions v file bytes change policy choice now before) upkeep life → now ≡ xs → before ≡ ys
+    → IsKept (merge_by conditions v file bytes change policy choice xs ys) upkeep life
+same_kept conditions v file bytes change policy choice now before xs ys upkeep life h e f =
+    subst (λ k. IsKept (merge_by conditions v file bytes change policy choice xs k) upkeep life) f
+    (subst (λ k. IsKept (merge_by conditions v file bytes change policy choice k before) upkeep life) e h)
 
-pub same_large : (v : Checks) (file : File) (bytes : Option (List ℕ)) (change : Option GatedChange) (policy : Policy) (choice : Option Choosing)
+pub same_large : (conditions : Option (List GateCondition)) (v : Checks) (file : File) (bytes : Option (List ℕ)) (change : Option GatedChange) (policy : Policy) (choice : Option Choosing)
     (now before xs ys : List Placed) (upkeep : Option Upkeep) (fault : MergeFault)
-    → first (life_faults (merge_by v file bytes change policy choice now before) upkeep) ≡ Some fault → now ≡ xs → before ≡ ys
-    → first (life_faults (merge_by v file bytes change policy choice xs ys) upkeep) ≡ Some fault
-same_large v file bytes change policy choice now before xs ys upkeep fault h e f =
-    subst (λ k. first (life_faults (merge_by v file bytes change policy choice xs k) upkeep) ≡ Some fault) f
-    (subst (λ k. first (life_faults (merge_by v file bytes change policy choice k before) upkeep) ≡ Some fault) e h)
+    → first (life_faults (merge_by conditions v file bytes change policy choice now before) upkeep) ≡ Some fault → now ≡ xs → before ≡ ys
+    → first (life_faults (merge_by conditions v file bytes change policy choice xs ys) upkeep) ≡ Some fault
+same_large conditions v file bytes change policy choice now before xs ys upkeep fault h e f =
+    subst (λ k. first (life_faults (merge_by conditions v file bytes change policy choice xs k) upkeep) ≡ Some fault) f
+    (subst (λ k. first (life_faults (merge_by conditions v file bytes change policy choice k before) upkeep) ≡ Some fault) e h)
 
 -- what is assembled of what was prepared for these inputs
 pub assembled_is : (inputs : Inputs) (policy : Policy) (asked : Option Reporting) (choice : Option Choosing) (upkeep : Option Upkeep) (prepared : Prepared)

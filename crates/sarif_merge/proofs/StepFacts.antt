@@ -370,7 +370,7 @@ pub is_ready : (m : Merging) (bytes : Option (List ℕ)) (file : File) (conditio
     → bytes ≡ (inputs_in m).suppressions
     → IsPreparedBy (checks_in m) file (placed_in now) (placed_in before) change (policy_in m) conditions (reporting_in m.asked.now) prepared
     → prepared.expired ≡ expired_of file (limited_records file (placed_in now))
-    → IsKept (merge_by (checks_in m) file bytes change (policy_in m) (choice_in m.asked.now) (placed_in now) (placed_in before)) (upkeep_in m.asked.now) prepared.life
+    → IsKept (merge_by conditions (checks_in m) file bytes change (policy_in m) (choice_in m.asked.now) (placed_in now) (placed_in before)) (upkeep_in m.asked.now) prepared.life
     → IsReady m prepared
 unfolding IsReady AreLogsJudged AreBaselinesJudged
 is_ready m bytes file conditions change now before prepared read asked_for looked logs baselines is ready past kept =
@@ -390,20 +390,28 @@ is_ready m bytes file conditions change now before prepared read asked_for looke
       expired = past ∙ ap (λ runs. expired_of file (limited_records file runs)) logs.0
           ∙ ap (λ f. expired_of f (limited_records f xs)) (same_file m file read);
       kept =
-          subst (λ f. IsKept (merge_by (checks_in m) f inputs.suppressions (change_given inputs) (policy_in m) choice xs ys) upkeep prepared.life) (same_file m file read)
-          (subst (λ c. IsKept (merge_by (checks_in m) file inputs.suppressions c (policy_in m) choice xs ys) upkeep prepared.life) (same_change m change looked)
-          (subst (λ b. IsKept (merge_by (checks_in m) file b change (policy_in m) choice xs ys) upkeep prepared.life) is
-          (same_kept (checks_in m) file bytes change (policy_in m) choice (placed_in now) (placed_in before) xs ys upkeep prepared.life kept logs.0 baselines.0)));
+          let given = conditions_given inputs in
+          subst (λ f. IsKept (merge_by given (checks_in m) f inputs.suppressions (change_given inputs) (policy_in m) choice xs ys) upkeep prepared.life)
+          (same_file m file read)
+          (subst (λ c. IsKept (merge_by given (checks_in m) file inputs.suppressions c (policy_in m) choice xs ys) upkeep prepared.life)
+          (same_change m change looked)
+          (subst (λ cs. IsKept (merge_by cs (checks_in m) file inputs.suppressions change (policy_in m) choice xs ys) upkeep prepared.life)
+          (same_conditions m conditions asked_for)
+          (subst (λ b. IsKept (merge_by conditions (checks_in m) file b change (policy_in m) choice xs ys) upkeep prepared.life) is
+          (same_kept conditions (checks_in m) file bytes change (policy_in m) choice (placed_in now) (placed_in before) xs ys upkeep prepared.life kept logs.0
+          baselines.0))));
     }
 
-pub rejected_life : (m : Merging) (bytes : Option (List ℕ)) (file : File) (change : Option GatedChange) (now before : Judged) (fault : MergeFault) → IsFileIn m file
-    → IsChangeIn m change → AreLogsJudged m now → AreBaselinesJudged m before
+pub rejected_life : (m : Merging) (bytes : Option (List ℕ)) (file : File) (conditions : Option (List GateCondition)) (change : Option GatedChange)
+    (now before : Judged) (fault : MergeFault) → IsFileIn m file
+    → IsPolicyIn m conditions → IsChangeIn m change → AreLogsJudged m now → AreBaselinesJudged m before
     → bytes ≡ (inputs_in m).suppressions
-    → IsUnkept (merge_by (checks_in m) file bytes change (policy_in m) (choice_in m.asked.now) (placed_in now) (placed_in before)) (upkeep_in m.asked.now) fault
+    → IsUnkept (merge_by conditions (checks_in m) file bytes change (policy_in m) (choice_in m.asked.now) (placed_in now) (placed_in before)) (upkeep_in m.asked.now) fault
     → IsRejection m fault
 unfolding IsRejection AreLogsJudged AreBaselinesJudged
-rejected_life m bytes file change now before fault read looked logs baselines is unkept =
+rejected_life m bytes file conditions change now before fault read asked_for looked logs baselines is unkept =
     let inputs = inputs_in m in
+    let given = conditions_given inputs in
     let choice = choice_in m.asked.now in
     let upkeep = upkeep_in m.asked.now in
     let xs = input_runs inputs in
@@ -412,15 +420,18 @@ rejected_life m bytes file change now before fault read looked logs baselines is
         | inl out ↦ inl (inl (inl out))
         | inr found ↦ inr (
           none_left m change now before looked logs baselines,
-          subst (λ f. first (life_faults (merge_by (checks_in m) f inputs.suppressions (change_given inputs) (policy_in m) choice xs ys) upkeep) ≡ Some fault)
+          subst (λ f. first (life_faults (merge_by given (checks_in m) f inputs.suppressions (change_given inputs) (policy_in m) choice xs ys) upkeep) ≡ Some fault)
               (same_file m file read)
-              (subst (λ c. first (life_faults (merge_by (checks_in m) file inputs.suppressions c (policy_in m) choice xs ys) upkeep) ≡ Some fault)
+              (subst (λ c. first (life_faults (merge_by given (checks_in m) file inputs.suppressions c (policy_in m) choice xs ys) upkeep) ≡ Some fault)
               (same_change m change looked)
-              (subst (λ b. first (life_faults (merge_by (checks_in m) file b change (policy_in m) choice xs ys) upkeep) ≡ Some fault) is
-              (same_large (checks_in m) file bytes change (policy_in m) choice (placed_in now) (placed_in before) xs ys upkeep fault found logs.0 baselines.0))),
+              (subst (λ cs. first (life_faults (merge_by cs (checks_in m) file inputs.suppressions change (policy_in m) choice xs ys) upkeep) ≡ Some fault)
+              (same_conditions m conditions asked_for)
+              (subst (λ b. first (life_faults (merge_by conditions (checks_in m) file b change (policy_in m) choice xs ys) upkeep) ≡ Some fault) is
+              (same_large conditions (checks_in m) file bytes change (policy_in m) choice (placed_in now) (placed_in before) xs ys upkeep fault found logs.0
+              baselines.0)))),
         )
       ],
-      unkept_quiet (merge_by (checks_in m) file bytes change (policy_in m) choice (placed_in now) (placed_in before)) upkeep fault unkept,
+      unkept_quiet (merge_by conditions (checks_in m) file bytes change (policy_in m) choice (placed_in now) (placed_in before)) upkeep fault unkept,
     )
 
 -- ---- assemble

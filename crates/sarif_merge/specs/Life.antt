@@ -12,7 +12,7 @@ use Rattle.sarif_choice.specs.declared.choice.Choosing.{Choosing}
 use Rattle.sarif_prepare.specs.Kept.{merge_of, IsKept}
 use Rattle.sarif_inputs.specs.Faults.{faults_of, first_fault}
 use Rattle.sarif_inputs.specs.Inputs.{Inputs, input_runs, baseline_runs}
-use Rattle.sarif_merge.specs.MergedLog.{change_given, file_given}
+use Rattle.sarif_merge.specs.MergedLog.{change_given, conditions_given, file_given}
 
 -- the merge of these inputs under this policy, if each result is counted
 abbrev pub merge_in : Inputs → Policy → Merge
@@ -20,11 +20,12 @@ merge_in inputs policy =
     merge_of inputs.checks (file_given inputs) inputs.suppressions (change_given inputs) policy
     (input_runs inputs) (baseline_runs inputs)
 
--- the merge of the results that are counted, with the choice of hits if there is one
+-- the merge of the results that are counted, with what the conditions of the policy decide, if there is one, and with the
+-- choice of hits, if there is one
 abbrev pub merge_counted : Inputs → Policy → Option Choosing → Merge
 merge_counted inputs policy choice =
-    merge_by inputs.checks (file_given inputs) inputs.suppressions (change_given inputs) policy
-    choice (input_runs inputs) (baseline_runs inputs)
+    merge_by (conditions_given inputs) inputs.checks (file_given inputs) inputs.suppressions
+    (change_given inputs) policy choice (input_runs inputs) (baseline_runs inputs)
 
 -- nothing for later merges
 abbrev pub no_life : Life

@@ -49,14 +49,14 @@ pub counted_once : (checks : Checks) (file : File) (now before : List Placed) (c
 counted_once checks file now before change policy conditions asked one prepared h =
     subst (λ once. IsPreparedIf once checks.matching file now before change policy conditions asked prepared) (sym one) h
 
-pub merge_all : (checks : Checks) (file : File) (bytes : Option (List ℕ)) (change : Option GatedChange) (policy : Policy) (choice : Option Choosing) (now before : List Placed)
-    → checks.once ≡ false → chosen_merge checks file bytes change policy choice now before ≡ merge_by checks file bytes change policy choice now before
-merge_all checks file bytes change policy choice now before all =
-    sym (ap (λ once. chosen_merge checks file bytes change policy choice (counted_if once now) (counted_if once before)) all)
+pub merge_all : (conditions : Option (List GateCondition)) (checks : Checks) (file : File) (bytes : Option (List ℕ)) (change : Option GatedChange) (policy : Policy) (choice : Option Choosing) (now before : List Placed)
+    → checks.once ≡ false → chosen_merge conditions checks file bytes change policy choice now before ≡ merge_by conditions checks file bytes change policy choice now before
+merge_all conditions checks file bytes change policy choice now before all =
+    sym (ap (λ once. chosen_merge conditions checks file bytes change policy choice (counted_if once now) (counted_if once before)) all)
 
-pub merge_once : (checks : Checks) (file : File) (bytes : Option (List ℕ)) (change : Option GatedChange) (policy : Policy) (choice : Option Choosing) (now before : List Placed)
+pub merge_once : (conditions : Option (List GateCondition)) (checks : Checks) (file : File) (bytes : Option (List ℕ)) (change : Option GatedChange) (policy : Policy) (choice : Option Choosing) (now before : List Placed)
     → checks.once ≡ true
-    → chosen_merge checks file bytes change policy choice (without_copies now) (without_copies before)
-    ≡ merge_by checks file bytes change policy choice now before
-merge_once checks file bytes change policy choice now before one =
-    sym (ap (λ once. chosen_merge checks file bytes change policy choice (counted_if once now) (counted_if once before)) one)
+    → chosen_merge conditions checks file bytes change policy choice (without_copies now) (without_copies before)
+    ≡ merge_by conditions checks file bytes change policy choice now before
+merge_once conditions checks file bytes change policy choice now before one =
+    sym (ap (λ once. chosen_merge conditions checks file bytes change policy choice (counted_if once now) (counted_if once before)) one)

@@ -20,6 +20,7 @@ pub mod MatchedRecords
 pub mod NarrowedSides
 pub mod ResultsAlike
 pub mod RuledLong
+pub mod RuledMarks
 pub mod RuledSides
 pub mod RunPartsOf
 pub mod RunsAlike

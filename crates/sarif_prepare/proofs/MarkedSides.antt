@@ -31,7 +31,7 @@ use Rattle.sarif_runs.specs.Judging.{records_of, run_values}
 use Rattle.sarif_runs.specs.Placed.{Placed}
 use Rattle.sarif_runs.specs.Internal.Spots.{spots_from}
 use Rattle.sarif_runs.proofs.AllSpots.{spots_count}
-use Rattle.sarif_prepare.specs.Chosen.{at_of, hits_alone, marks_in, misfit_in}
+use Rattle.sarif_prepare.specs.Chosen.{at_of, hits_alone, marks_in}
 use Rattle.sarif_prepare.specs.Internal.Marking.{marked_each, rejected, spread_told}
 use Rattle.sarif_choice.specs.declared.choice.Choosing.{Choosing}
 use Rattle.sarif_prepare.specs.Internal.Outside.{states_by, AreNarrowed}
@@ -53,7 +53,7 @@ use Rattle.sarif_prepare.proofs.WrittenSides.{current_long}
 
 module _ (v : MatchingVersion) (reporting : Reporting) (choice : Choice) (file : File) (now before : List Placed) (c : Half) (b : Baselines) (p : Paired)
     (h : AreTogether file now before c b) (q : IsPaired v c b p) where
-  current_marked : marked_each reporting choice (map (pair_at now) (spots_from 0 now)) c.drafts.items p.states.items
+  pub current_marked : marked_each reporting choice (map (pair_at now) (spots_from 0 now)) c.drafts.items p.states.items
       ≡ marks_in None reporting choice (current_runs v file now before)
   current_marked =
       let cs = records_of now in
@@ -67,7 +67,7 @@ module _ (v : MatchingVersion) (reporting : Reporting) (choice : Choice) (file :
       ∙ runs_marked reporting choice (listing_of file) (applied_of file) (limited_records file now) (states_of v cs bs) (run_values now) h.current_are_runs
       (limited_total file now h.current_records) (states_long v bs (partners_in v cs bs) 0 cs ∙ sym (limited_long file cs))
 
-  pairs_long : length (map (pair_at now) (spots_from 0 now)) ≡ length c.drafts.items
+  pub pairs_long : length (map (pair_at now) (spots_from 0 now)) ≡ length c.drafts.items
   pairs_long =
       length-map (spots_from 0 now) (pair_at now) ∙ spots_count 0 now ∙ sym h.current_records ∙ sym (current_long file now before c b h)
 
@@ -132,7 +132,7 @@ module _ (v : MatchingVersion) (reporting : Reporting) (choice : Choice) (file :
         pairs_long begins
         ∙ any_marked
 
--- ---- what is marked, and what fits no chosen hit
+-- ---- what is marked
 
 module _ (policy : Policy) (choosing : Choosing) (reporting : Reporting) (roots : List (List ℕ)) (reporting_is : reporting ≡ hits_alone policy roots)
     (roots_are : roots ≡ choosing.roots) where
@@ -152,13 +152,6 @@ module _ (policy : Policy) (choosing : Choosing) (reporting : Reporting) (roots 
       ∙ ap (λ l. spread_told (hits_alone policy choosing.roots) c.drafts.items l given 0) states_are
       ∙ spread_is v (hits_alone policy choosing.roots) choosing.choice file now before c b p h q change policy narrowed k hits given
       (hits_are ∙ ap (λ r. told_by change (Some r) (runs_by v file now before)) alone) (given_is ∙ marks_are)
-
-  pub misfit_is : (change : Option GatedChange) (runs : List Data) (hits given : List Finding) → hits ≡ told_by change (Some reporting) runs
-      → given ≡ hits
-      → misfit_in change (hits_alone policy choosing.roots) choosing.choice runs ≡ option_map at_of (unfit_of choosing.choice given)
-  misfit_is change runs hits given hits_are given_is =
-      ap (λ r. option_map at_of (unfit_of choosing.choice (told_by change (Some r) runs))) (sym alone)
-      ∙ ap (λ hs. option_map at_of (unfit_of choosing.choice hs)) (sym (given_is ∙ hits_are))
 
 -- the error that is reported
 pub rejected_err : (choice : Choice) (hits : List Finding) (refusal : Refusal Unfit) (fault : MergeFault) → fault ≡ rejected refusal

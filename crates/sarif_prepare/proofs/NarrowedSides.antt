@@ -108,7 +108,7 @@ spots_out : (change : GatedChange) (now : List Placed) (spots : List Spot)
 spots_out change now [] = refl
 spots_out change now (spot ∷ spots) = ap (λ l. is_outside_at change now spot ∷ l) (spots_out change now spots)
 
-both_long : (ms ns : List Bool) → length ms ≡ length ns → length (both ms ns) ≡ length ms
+pub both_long : (ms ns : List Bool) → length ms ≡ length ns → length (both ms ns) ≡ length ms
 both_long [] ns same = refl
 both_long (m ∷ ms) [] same = absurd (omega (arith, same))
 both_long (m ∷ ms) (n ∷ ns) same = let rest = both_long ms ns (omega (arith, same)) in omega (arith, rest)
@@ -119,7 +119,7 @@ pub outside_long : (change : GatedChange) (runs : List Placed) (asked : List Boo
 outside_long change runs asked same =
     both_long asked (map (is_outside_at change runs) (spots_from 0 runs)) (same ∙ sym (length-map (spots_from 0 runs) (is_outside_at change runs)))
 
-masked_long : (ms : List Bool) (ss : List (Option State)) → length ms ≡ length ss → length (masked ms ss) ≡ length ss
+pub masked_long : (ms : List Bool) (ss : List (Option State)) → length ms ≡ length ss → length (masked ms ss) ≡ length ss
 masked_long [] [] same = refl
 masked_long [] (s ∷ ss) same = absurd (omega (arith, same))
 masked_long (m ∷ ms) [] same = refl

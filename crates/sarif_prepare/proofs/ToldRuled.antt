@@ -5,7 +5,7 @@ use Rattle.std.proofs.lemmas.List.{length-map, map-append}
 use Rattle.std.proofs.lemmas.List.Elements.{filter-append}
 use Rattle.std.specs.Prelude.{not}
 use Rattle.serde_json.specs.Data.{Data}
-use Rattle.sarif_conditions.specs.Decided.{impact_of}
+use Rattle.sarif_conditions.specs.Decided.{impact_of, is_known}
 use Rattle.sarif_conditions.specs.Judged.{Judged}
 use Rattle.sarif_conditions.specs.declared.decided.Decided.{Decided}
 use Rattle.sarif_counts.specs.declared.gate_verdict.Impact.{Impact}
@@ -114,6 +114,10 @@ abbrev pub impacts_or : List (Option Impact) → Option Decided → List (Option
 impacts_or other None = other
 impacts_or other (Some d) = d.impacts
 
+abbrev knowns_or : List Bool → Option Decided → List Bool
+knowns_or other None = other
+knowns_or other (Some d) = d.known
+
 absent_states : (ds : List Draft) → map Some (map (λ _. Absent) ds) ≡ map (λ _. Some Absent) ds
 absent_states [] = refl
 absent_states (d ∷ ds) = ap (λ ss. Some Absent ∷ ss) (absent_states ds)
@@ -178,6 +182,12 @@ module _ (v : MatchingVersion) (file : File) (now before : List Placed) (c : Hal
   pub impacts_many : length (ruling_in cs m).impacts ≡ length c.drafts.items + length p.left.items
   impacts_many =
       length-map (results_in cs m) (impact_of cs (results_in cs m))
+      ∙ each_result cs m (length c.drafts.items) (length p.left.items) current_many absent_many
+
+  -- each result is or isn't a hit, regardless of the change
+  pub knowns_many : length (ruling_in cs m).known ≡ length c.drafts.items + length p.left.items
+  knowns_many =
+      length-map (results_in cs m) (is_known cs)
       ∙ each_result cs m (length c.drafts.items) (length p.left.items) current_many absent_many
 
   others_long : length others ≡ length p.left.items
@@ -250,6 +260,15 @@ module _ (v : MatchingVersion) (file : File) (now before : List Placed) (c : Hal
         ∙ ap (λ ss. told_with show (active_impacts cs m) (told_each (of_all reporting) pairs c.drafts.items p.states.items
         ++ told_each (of_all reporting) others p.left.items ss)) (absent_states p.left.items)
         ∙ ap (told_with show (active_impacts cs m)) (sides_told v (Some (of_all reporting)) file now before c b p h q)
+
+-- each result is or isn't a hit, for all conditions
+pub known_each : (v : MatchingVersion) (file : File) (now before : List Placed) (c : Half) (b : Baselines) (p : Paired)
+    → AreTogether file now before c b → IsPaired v c b p → (change : Option GatedChange) (conditions : Option (List GateCondition)) (ruling : Decided)
+    → Some ruling ≡ decided_by conditions (matched_in v file change now before)
+    → length ruling.known ≡ length c.drafts.items + length p.left.items
+known_each v file now before c b p h q change None ruling some = let e : Some ruling ≡ None = some in absurd (cc e)
+known_each v file now before c b p h q change (Some cs) ruling some =
+    ap (λ o. length (knowns_or ruling.known o)) some ∙ knowns_many v file now before c b p h q change cs
 
 -- each result has its impact, for all conditions
 pub decided_many : (v : MatchingVersion) (file : File) (now before : List Placed) (c : Half) (b : Baselines) (p : Paired)

@@ -97,9 +97,9 @@ logged_by checks file current baseline change policy conditions =
     (unused_of file (limited_records file (counted_if checks.once current)))))
     (written_if checks.once checks.matching file current baseline)
 
--- the merge of the results that are counted, for later merges
-abbrev pub merge_by : Checks → File → Option (List ℕ) → Option GatedChange → Policy
-    → Option Choosing → List Placed → List Placed → Merge
-merge_by checks file bytes change policy choice current baseline =
-    chosen_merge checks file bytes change policy choice
+-- the merge of the results that are counted, for later merges, with what these conditions decide, if there are some
+abbrev pub merge_by : Option (List GateCondition) → Checks → File → Option (List ℕ)
+    → Option GatedChange → Policy → Option Choosing → List Placed → List Placed → Merge
+merge_by conditions checks file bytes change policy choice current baseline =
+    chosen_merge conditions checks file bytes change policy choice
     (counted_if checks.once current) (counted_if checks.once baseline)

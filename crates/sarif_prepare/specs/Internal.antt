@@ -10,6 +10,7 @@ pub mod Limiting
 pub mod Marked
 pub mod Marking
 pub mod Outside
+pub mod Ruling
 pub mod Telling
 pub mod Together
 pub mod Woven

@@ -52,6 +52,7 @@ merge_of checks file bytes change policy current baseline = record {
   states = states_of checks.matching (records_of current) (records_of baseline);
   standings = standings_of checks.matching (records_of current) (records_of baseline);
   hidden = hidden_by change file current;
+  absent = None;
   chosen = None;
   misfit = None;
   before = run_values baseline;

@@ -38,12 +38,12 @@ pub fn prepare_by<R: Threads + Sync>(
     ensures expired { IfOk result (λ prepared. prepared.expired
         ≡ expired_of rules.now.file.now
         (limited_records rules.now.file.now (placed_in current.entry))) }
-    ensures kept { IfOk result (λ prepared. IsKept (merge_by asked.now.options.now.checks
-        rules.now.file.now (bytes_of rules.now) (change_in rules.now)
+    ensures kept { IfOk result (λ prepared. IsKept (merge_by (policy_in rules.now)
+        asked.now.options.now.checks rules.now.file.now (bytes_of rules.now) (change_in rules.now)
         asked.now.options.now.policy (choice_in asked.now)
         (placed_in current.entry) (placed_in baseline.entry)) (upkeep_in asked.now) prepared.life) }
-    ensures unkept { IfErr result (IsUnkept (merge_by asked.now.options.now.checks
-        rules.now.file.now (bytes_of rules.now) (change_in rules.now)
+    ensures unkept { IfErr result (IsUnkept (merge_by (policy_in rules.now)
+        asked.now.options.now.checks rules.now.file.now (bytes_of rules.now) (change_in rules.now)
         asked.now.options.now.policy (choice_in asked.now)
         (placed_in current.entry) (placed_in baseline.entry)) (upkeep_in asked.now)) }
 {

@@ -27,11 +27,11 @@ use sarif_options::{Options, Policy, States};
 use std::alloc::{AllocError, Global};
 use std::thread::Threads;
 
-/// The reports with the same roots that show each active result.
-fn report_of_all(alloc: Global, reporting: &Reporting) -> Result<Reporting, AllocError>
-    ensures { IfOk result (λ all. all ≡ told.of_all reporting.now) }
+/// The policy by which each active result is a hit.
+pub(crate) fn any_policy() -> Policy
+    ensures { result ≡ told.any_policy }
 {
-    let policy = Policy {
+    Policy {
         fail_on: Level::NoLevel,
         states: States {
             absent: true,
@@ -40,9 +40,15 @@ fn report_of_all(alloc: Global, reporting: &Reporting) -> Result<Reporting, Allo
             updated: true,
         },
         max: 0,
-    };
+    }
+}
+
+/// The reports with the same roots that show each active result.
+pub(crate) fn report_of_all(alloc: Global, reporting: &Reporting) -> Result<Reporting, AllocError>
+    ensures { IfOk result (λ all. all ≡ told.of_all reporting.now) }
+{
     Ok(Reporting {
-        policy,
+        policy: any_policy(),
         show: Show::All,
         roots: copy_of_texts(alloc, reporting.roots.as_slice())?,
     })

@@ -23,6 +23,7 @@ mod pairing;
 mod parts_of_runs;
 mod preparing;
 mod reporting;
+mod ruled;
 mod ruling;
 mod run_parts;
 mod snippets;

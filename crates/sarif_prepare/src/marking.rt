@@ -1,25 +1,28 @@
 //! Which current results are chosen hits.
-ghost use Rattle.std.specs.Prelude.{◌≡◌, ◌≤◌, ◌+◌, ◌⊎◌, ◌++◌, ◌∷◌, [], List, Option, Some, None, false, get_or, if◌then◌else◌, length, map, option_map, IfOk, IfErr};
+ghost use Rattle.std.specs.Prelude.{◌≡◌, ◌≤◌, ◌+◌, ◌⊎◌, ◌++◌, ◌∷◌, [], List, Option, Some, None, false, get_or, if◌then◌else◌, length, map, option_map, IfOk, IfErr, IfSome};
 ghost use Rattle.sarif_choice.specs.Choice as said;
 ghost use Rattle.sarif_entries.specs.File.{File};
 ghost use Rattle.sarif_log.specs.LogBy.{runs_by};
-ghost use Rattle.sarif_log.specs.Told.{told_by};
 ghost use Rattle.sarif_model.specs.MergeFault.{out_of_memory};
 ghost use Rattle.sarif_model.specs.declared.merge_fault.At.{At as AnyPlace};
 ghost use Rattle.sarif_prepare.specs.Chosen as chosen;
-ghost use Rattle.sarif_prepare.specs.Internal.Keeping.{merge_by, AreLookedAt, AreOfRuns};
+ghost use Rattle.sarif_prepare.specs.Internal.Keeping.{merge_by, AreDecided, AreLookedAt, AreOfRuns, AreRuled, HaveImpacts};
 ghost use Rattle.sarif_prepare.specs.Internal.Marking as marked;
-ghost use Rattle.sarif_prepare.specs.Internal.Outside.{AreNarrowed};
+ghost use Rattle.sarif_prepare.specs.Internal.Outside.{states_by, AreNarrowed};
 ghost use Rattle.sarif_prepare.specs.Internal.Together.{AreTogether, IsPaired};
 ghost use Rattle.sarif_prepare.specs.Kept.{change_in};
+ghost use Rattle.sarif_prepare.specs.Ruled.{matched_in, policy_in};
+ghost use Rattle.sarif_prepare.specs.Told.{told_in};
+ghost use Rattle.sarif_policy.specs.declared.condition.GateCondition.{GateCondition};
 ghost use Rattle.sarif_runs.specs.Placed.{Placed};
 ghost use Rattle.sarif_scope.specs.declared.gated.GatedChange.{GatedChange};
 ghost use Rattle.sarif_upkeep.specs.Life.{no_hit};
 
 use crate::asked::Asked;
 use crate::file_read::FileRead;
+use crate::impacts::report_of_all;
 use crate::pairing::{Sides, states_shown};
-use crate::reporting::tell_results;
+use crate::reporting::tell_sides;
 use sarif_choice::{Choosing, Unfit, choose};
 use sarif_findings::{Finding, Reporting, Show};
 use sarif_model::{At, Cause, Fault, MergeFault, Refusal, Sequence, State, Text};
@@ -50,7 +53,8 @@ fn hits_alone(alloc: Global, policy: Policy, roots: &[Text]) -> Result<Reporting
     })
 }
 
-/// Returns the findings of all results that are shown, current and absent; with a change, of those inside.
+/// Returns the findings of all hits, current and absent: with a policy the hits of its conditions, otherwise with a change
+/// those inside.
 fn tell_hits<'o, R: Threads + Sync>(
     rt: &R,
     alloc: Global,
@@ -67,13 +71,19 @@ fn tell_hits<'o, R: Threads + Sync>(
     requires narrowed { (change : Option GatedChange) × AreNarrowed change options.now.policy
         sides.now.current.now sides.now.paired.now
         (option_map (λ n. n.now) sides.now.narrowed) }
+    requires each { HaveImpacts sides.now }
     ensures { IfOk result (λ hits. (file : File) (current_runs baseline_runs : List Placed)
         → AreTogether file current_runs baseline_runs
         sides.now.current.now sides.now.baselines.now
         → (change : Option GatedChange) → AreNarrowed change options.now.policy
         sides.now.current.now sides.now.paired.now
         (option_map (λ n. n.now) sides.now.narrowed)
-        → hits.items ≡ told_by change (Some reporting.now)
+        → (conditions : Option (List GateCondition))
+        → AreDecided conditions file change options.now.checks.matching sides.now
+        current_runs baseline_runs
+        → hits.items ≡ told_in conditions
+        (matched_in options.now.checks.matching file change current_runs baseline_runs)
+        (Some reporting.now)
         (runs_by options.now.checks.matching file current_runs baseline_runs)) }
 {
     let alone = Asked {
@@ -82,7 +92,7 @@ fn tell_hits<'o, R: Threads + Sync>(
         upkeep: None,
         choice: None,
     };
-    tell_results(rt, alloc, &alone, sides)
+    tell_sides(rt, alloc, &alone, sides)
 }
 
 /// Whether a result is shown.
@@ -147,6 +157,31 @@ fn spread_told(
     Ok(spread)
 }
 
+/// The marks of the hits among the results of logs, and false for the others.
+fn spread_marks(
+    alloc: Global,
+    sides: &Sides<'_, '_, '_>,
+    reporting: &Reporting,
+    marks: &[bool],
+) -> Result<Vec<bool>, AllocError>
+    requires shown { length (states_by (option_map (λ n. n.now) sides.now.narrowed)
+        sides.now.paired.now) ≡ length sides.now.current.now.drafts.items }
+    requires ruled { IfSome (option_map (λ r. r.now) sides.now.ruled) (λ ruled.
+        length ruled.states.items ≡ length sides.now.current.now.drafts.items) }
+    ensures { IfOk result (λ spread. spread.items ≡ marked.spread_by
+        (option_map (λ r. r.now) sides.now.ruled) reporting.now sides.now.current.now.drafts.items
+        (states_by (option_map (λ n. n.now) sides.now.narrowed) sides.now.paired.now) marks.now) }
+{
+    let drafts = &sides.current.drafts;
+    match sides.ruled {
+        None => spread_told(alloc, reporting, drafts, states_shown(sides), marks),
+        Some(ruled) => {
+            let all = report_of_all(alloc, reporting)?;
+            spread_told(alloc, &all, drafts, &ruled.states, marks)
+        }
+    }
+}
+
 /// The rejection of a choice with a place or a rule that fits no chosen hit.
 fn rejection_of(refusal: Refusal<Unfit>) -> MergeFault
     ensures { result ≡ marked.rejected refusal }
@@ -197,32 +232,39 @@ fn mark<R: Threads + Sync>(
     requires paired { IsPaired asked.now.options.now.checks.matching
         sides.now.current.now sides.now.baselines.now sides.now.paired.now }
     requires narrowed { (change : Option GatedChange) × AreLookedAt change asked.now sides.now }
+    requires each { HaveImpacts sides.now }
+    requires ruled { AreRuled sides.now }
     ensures ok { (file : File) (current_runs baseline_runs : List Placed)
         → AreTogether file current_runs baseline_runs
         sides.now.current.now sides.now.baselines.now
         → (change : Option GatedChange) → AreLookedAt change asked.now sides.now
+        → (conditions : Option (List GateCondition)) → AreDecided conditions file change
+        asked.now.options.now.checks.matching sides.now current_runs baseline_runs
         → IfOk result (λ marks. option_map (λ v. v.items) marks
-        ≡ (marked.merge_with file change asked.now choosing.now current_runs baseline_runs).chosen) }
+        ≡ (marked.merge_with conditions file change asked.now choosing.now
+        current_runs baseline_runs).chosen) }
     ensures fits { (file : File) (current_runs baseline_runs : List Placed)
         → AreTogether file current_runs baseline_runs
         sides.now.current.now sides.now.baselines.now
         → (change : Option GatedChange) → AreLookedAt change asked.now sides.now
-        → IfOk result (λ _. (marked.merge_with file change asked.now choosing.now
+        → (conditions : Option (List GateCondition)) → AreDecided conditions file change
+        asked.now.options.now.checks.matching sides.now current_runs baseline_runs
+        → IfOk result (λ _. (marked.merge_with conditions file change asked.now choosing.now
         current_runs baseline_runs).misfit ≡ None) }
     ensures err { (file : File) (current_runs baseline_runs : List Placed)
         → AreTogether file current_runs baseline_runs
         sides.now.current.now sides.now.baselines.now
         → (change : Option GatedChange) → AreLookedAt change asked.now sides.now
+        → (conditions : Option (List GateCondition)) → AreDecided conditions file change
+        asked.now.options.now.checks.matching sides.now current_runs baseline_runs
         → IfErr result (λ fault. (fault ≡ out_of_memory)
-        ⊎ ((at : AnyPlace) × (fault ≡ no_hit at) × ((marked.merge_with file change asked.now
-        choosing.now current_runs baseline_runs).misfit ≡ Some at))) }
+        ⊎ ((at : AnyPlace) × (fault ≡ no_hit at) × ((marked.merge_with conditions file change
+        asked.now choosing.now current_runs baseline_runs).misfit ≡ Some at))) }
 {
     let reporting = hits_alone(alloc, asked.options.policy, choosing.roots.as_slice())?;
     let hits = tell_hits(rt, alloc, sides, asked.options, &reporting)?;
     let marks = choose_hits(alloc, asked, choosing, &hits)?;
-    let drafts = &sides.current.drafts;
-    let states = states_shown(sides);
-    let spread = spread_told(alloc, &reporting, drafts, states, &marks)?;
+    let spread = spread_marks(alloc, sides, &reporting, &marks)?;
     Ok(Some(spread))
 }
 
@@ -239,6 +281,12 @@ pub(crate) fn mark_if_chosen<R: Threads + Sync>(
     requires paired { IsPaired asked.now.options.now.checks.matching
         sides.now.current.now sides.now.baselines.now sides.now.paired.now }
     requires narrowed { AreLookedAt (change_in rules.now) asked.now sides.now }
+    requires each { HaveImpacts sides.now }
+    requires ruled { AreRuled sides.now }
+    requires decided { (current_runs baseline_runs : List Placed)
+        → AreOfRuns rules.now sides.now current_runs baseline_runs
+        → AreDecided (policy_in rules.now) rules.now.file.now (change_in rules.now)
+        asked.now.options.now.checks.matching sides.now current_runs baseline_runs }
     ensures ok { (current_runs baseline_runs : List Placed)
         → AreOfRuns rules.now sides.now current_runs baseline_runs
         → IfOk result (λ marks. option_map (λ v. v.items) marks

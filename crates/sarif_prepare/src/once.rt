@@ -148,14 +148,14 @@ fn prepare_split<R: Threads + Sync>(
         (λ prepared. (rs : List Record) → prepared.expired ≡ expired_of rules.now.file.now rs) }
     ensures kept { (now before : List Placed)
         → AreApart rules.now.file.now now before split.entry
-        → IfOk result (λ prepared. IsKept (chosen_merge asked.now.options.now.checks
-        rules.now.file.now (bytes_of rules.now) (change_in rules.now)
+        → IfOk result (λ prepared. IsKept (chosen_merge (policy_in rules.now)
+        asked.now.options.now.checks rules.now.file.now (bytes_of rules.now) (change_in rules.now)
         asked.now.options.now.policy (choice_in asked.now)
         (without_copies now) (without_copies before)) (upkeep_in asked.now) prepared.life) }
     ensures unkept { (now before : List Placed)
         → AreApart rules.now.file.now now before split.entry
-        → IfErr result (IsUnkept (chosen_merge asked.now.options.now.checks
-        rules.now.file.now (bytes_of rules.now) (change_in rules.now)
+        → IfErr result (IsUnkept (chosen_merge (policy_in rules.now)
+        asked.now.options.now.checks rules.now.file.now (bytes_of rules.now) (change_in rules.now)
         asked.now.options.now.policy (choice_in asked.now)
         (without_copies now) (without_copies before)) (upkeep_in asked.now)) }
 {
@@ -206,13 +206,13 @@ pub fn prepare_once<R: Threads + Sync>(
     ensures expired { IfOk result
         (λ prepared. (rs : List Record) → prepared.expired ≡ expired_of rules.now.file.now rs) }
     ensures kept { IfOk result
-        (λ prepared. IsKept (chosen_merge asked.now.options.now.checks
-        rules.now.file.now (bytes_of rules.now) (change_in rules.now)
+        (λ prepared. IsKept (chosen_merge (policy_in rules.now)
+        asked.now.options.now.checks rules.now.file.now (bytes_of rules.now) (change_in rules.now)
         asked.now.options.now.policy (choice_in asked.now)
         (without_copies (placed_in current.entry)) (without_copies (placed_in baseline.entry)))
         (upkeep_in asked.now) prepared.life) }
-    ensures unkept { IfErr result (IsUnkept (chosen_merge asked.now.options.now.checks
-        rules.now.file.now (bytes_of rules.now) (change_in rules.now)
+    ensures unkept { IfErr result (IsUnkept (chosen_merge (policy_in rules.now)
+        asked.now.options.now.checks rules.now.file.now (bytes_of rules.now) (change_in rules.now)
         asked.now.options.now.policy (choice_in asked.now)
         (without_copies (placed_in current.entry)) (without_copies (placed_in baseline.entry)))
         (upkeep_in asked.now)) }

@@ -18,6 +18,8 @@ use crate::halves::{Half, change_half};
 use crate::left::left_drafts;
 use crate::matched::{MatchedStates, match_records};
 use crate::outside::Narrowed;
+use crate::ruled::RuledSides;
+use sarif_conditions::Decided;
 use sarif_known::Standing;
 use sarif_model::{Record, State};
 use sarif_options::Options;
@@ -82,6 +84,9 @@ pub(crate) struct Sides<'s, 't: 's, 'a: 't> {
     pub(crate) paired: &'s Paired,
     /// What the change makes of the results of logs, if there is one.
     pub(crate) narrowed: Option<&'s Narrowed>,
+    /// What the conditions of the policy decide, and what that makes of matched results, if there is a policy.
+    pub(crate) decided: Option<&'s Decided>,
+    pub(crate) ruled: Option<&'s RuledSides>,
 }
 
 /// Returns the states of the results of logs that are shown.
@@ -96,9 +101,16 @@ pub(crate) fn states_shown<'s>(sides: &Sides<'s, '_, '_>) -> &'s [Option<State>]
 }
 
 impl<'t, 'a> PairedSides<'t, 'a> {
-    /// Returns the sides, lent, with what the change makes of the results of logs.
-    pub(crate) fn lend<'s>(&'s self, narrowed: &'s Option<Narrowed>) -> Sides<'s, 't, 'a>
+    /// Returns the sides, lent, with what the change and the policy make of them.
+    pub(crate) fn lend<'s>(
+        &'s self,
+        narrowed: &'s Option<Narrowed>,
+        decided: &'s Option<Decided>,
+        ruled: &'s Option<RuledSides>,
+    ) -> Sides<'s, 't, 'a>
         ensures narrowed { option_map (λ n. n.now) result.narrowed ≡ narrowed.now }
+        ensures decided { option_map (λ d. d.now) result.decided ≡ decided.now }
+        ensures ruled { option_map (λ r. r.now) result.ruled ≡ ruled.now }
         ensures current { result.current.now ≡ self.now.current }
         ensures baselines { result.baselines.now ≡ self.now.baselines }
         ensures paired { result.paired.now ≡ self.now.paired }
@@ -108,6 +120,8 @@ impl<'t, 'a> PairedSides<'t, 'a> {
             baselines: &self.baselines,
             paired: &self.paired,
             narrowed: narrowed.as_ref(),
+            decided: decided.as_ref(),
+            ruled: ruled.as_ref(),
         }
     }
 }

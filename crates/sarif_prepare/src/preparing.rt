@@ -17,6 +17,7 @@ ghost use Rattle.sarif_upkeep.specs.Internal.IsMatched.{IsFileOf};
 ghost use Rattle.sarif_prepare.specs.Chosen.{chosen_merge};
 ghost use Rattle.sarif_prepare.specs.Kept.{bytes_of, change_in, IsKept, IsUnkept};
 ghost use Rattle.sarif_prepare.specs.Asked.{choice_in, reporting_in, upkeep_in};
+ghost use Rattle.sarif_prepare.specs.Ruled.{policy_in};
 ghost use Rattle.sarif_prepare.specs.Told.{ruled_for, told_for};
 ghost use Rattle.sarif_prepare.specs.Internal.Together.{AreTogether, IsPaired};
 ghost use Rattle.sarif_model.specs.Limits.{most_runs};
@@ -122,16 +123,16 @@ fn prepare_sides<R: Threads + Sync>(
     ensures kept { (current_runs baseline_runs : List Placed)
         → AreTogether rules.now.file.now current_runs baseline_runs
         sides.entry.current sides.entry.baselines
-        → IfOk result (λ prepared. IsKept (chosen_merge asked.now.options.now.checks
-        rules.now.file.now (bytes_of rules.now) (change_in rules.now)
+        → IfOk result (λ prepared. IsKept (chosen_merge (policy_in rules.now)
+        asked.now.options.now.checks rules.now.file.now (bytes_of rules.now) (change_in rules.now)
         asked.now.options.now.policy (choice_in asked.now) current_runs baseline_runs)
         (upkeep_in asked.now)
         prepared.life) }
     ensures unkept { (current_runs baseline_runs : List Placed)
         → AreTogether rules.now.file.now current_runs baseline_runs
         sides.entry.current sides.entry.baselines
-        → IfErr result (IsUnkept (chosen_merge asked.now.options.now.checks
-        rules.now.file.now (bytes_of rules.now) (change_in rules.now)
+        → IfErr result (IsUnkept (chosen_merge (policy_in rules.now)
+        asked.now.options.now.checks rules.now.file.now (bytes_of rules.now) (change_in rules.now)
         asked.now.options.now.policy (choice_in asked.now) current_runs baseline_runs)
         (upkeep_in asked.now)) }
 {
@@ -199,13 +200,13 @@ pub fn prepare<R: Threads + Sync>(
         (ruled_for rules.now asked.now (placed_in current.entry) (placed_in baseline.entry))
         (told_for rules.now asked.now (placed_in current.entry) (placed_in baseline.entry))) }
     ensures kept { IfOk result
-        (λ prepared. IsKept (chosen_merge asked.now.options.now.checks
-        rules.now.file.now (bytes_of rules.now) (change_in rules.now)
+        (λ prepared. IsKept (chosen_merge (policy_in rules.now)
+        asked.now.options.now.checks rules.now.file.now (bytes_of rules.now) (change_in rules.now)
         asked.now.options.now.policy (choice_in asked.now)
         (placed_in current.entry) (placed_in baseline.entry))
         (upkeep_in asked.now) prepared.life) }
-    ensures unkept { IfErr result (IsUnkept (chosen_merge asked.now.options.now.checks
-        rules.now.file.now (bytes_of rules.now) (change_in rules.now)
+    ensures unkept { IfErr result (IsUnkept (chosen_merge (policy_in rules.now)
+        asked.now.options.now.checks rules.now.file.now (bytes_of rules.now) (change_in rules.now)
         asked.now.options.now.policy (choice_in asked.now)
         (placed_in current.entry) (placed_in baseline.entry))
         (upkeep_in asked.now)) }

@@ -9,7 +9,7 @@ ghost use Rattle.sarif_prepare.specs.Chosen.{chosen_merge};
 ghost use Rattle.sarif_prepare.specs.Internal.Keeping.{AreLookedAt};
 ghost use Rattle.sarif_prepare.specs.Internal.Together.{AreTogether, IsPaired};
 ghost use Rattle.sarif_prepare.specs.Kept.{bytes_of, change_in, IsKept, IsUnkept};
-ghost use Rattle.sarif_prepare.specs.Ruled.{decided_by, matched_in};
+ghost use Rattle.sarif_prepare.specs.Ruled.{decided_by, matched_in, policy_in};
 ghost use Rattle.sarif_prepare.specs.Told.{ruled_for, told_for, told_in};
 ghost use Rattle.sarif_policy.specs.declared.condition.GateCondition.{GateCondition};
 ghost use Rattle.sarif_runs.specs.Placed.{Placed};
@@ -24,6 +24,7 @@ use crate::keeping::keep_if_asked;
 use crate::left::absent_states;
 use crate::outside::{facts_of, narrow_if};
 use crate::pairing::{PairedSides, Sides};
+use crate::ruled::rule_if;
 use crate::ruling::rule_sides;
 use crate::telling::{tell_current, tell_left};
 use sarif_conditions::{Decided, PolicyFacts};
@@ -92,12 +93,11 @@ pub(crate) fn tell_results<R: Threads + Sync>(
 
 /// Returns the findings of the written results, if they are requested: with a policy those of the results that its conditions
 /// report, otherwise with a change those of the results inside.
-fn tell_sides<R: Threads + Sync>(
+pub(crate) fn tell_sides<R: Threads + Sync>(
     rt: &R,
     alloc: Global,
     asked: &Asked<'_>,
     sides: &Sides<'_, '_, '_>,
-    decided: &Option<Decided>,
 ) -> Result<Vec<Finding>, AllocError>
     requires together { (file : File)
         × (current_runs : List Placed) × (baseline_runs : List Placed)
@@ -106,7 +106,7 @@ fn tell_sides<R: Threads + Sync>(
     requires paired { IsPaired asked.now.options.now.checks.matching
         sides.now.current.now sides.now.baselines.now sides.now.paired.now }
     requires narrowed { (change : Option GatedChange) × AreLookedAt change asked.now sides.now }
-    requires each { (ruling : Ruling) → decided.now ≡ Some ruling
+    requires each { (ruling : Ruling) → option_map (λ d. d.now) sides.now.decided ≡ Some ruling
         → length ruling.impacts ≡ length sides.now.current.now.drafts.items
         + length sides.now.paired.now.left.items }
     ensures { IfOk result (λ findings. (file : File) (current_runs baseline_runs : List Placed)
@@ -114,14 +114,15 @@ fn tell_sides<R: Threads + Sync>(
         sides.now.current.now sides.now.baselines.now
         → (change : Option GatedChange) → AreLookedAt change asked.now sides.now
         → (conditions : Option (List GateCondition))
-        → decided.now ≡ decided_by conditions (matched_in asked.now.options.now.checks.matching
+        → option_map (λ d. d.now) sides.now.decided
+        ≡ decided_by conditions (matched_in asked.now.options.now.checks.matching
         file change current_runs baseline_runs)
         → findings.items ≡ told_in conditions (matched_in
         asked.now.options.now.checks.matching file change current_runs baseline_runs)
         (reporting_in asked.now)
         (runs_by asked.now.options.now.checks.matching file current_runs baseline_runs)) }
 {
-    match decided {
+    match sides.decided {
         Some(decided) => tell_ruled(rt, alloc, asked, sides, decided.impacts.as_slice()),
         None => tell_results(rt, alloc, asked, sides),
     }
@@ -178,15 +179,15 @@ pub(crate) fn report_sides<R: Threads + Sync>(
     ensures kept { (current_runs baseline_runs : List Placed)
         → AreTogether rules.now.file.now current_runs baseline_runs
         sides.now.current sides.now.baselines
-        → IfOk result (λ reported. IsKept (chosen_merge asked.now.options.now.checks
-        rules.now.file.now (bytes_of rules.now) (change_in rules.now)
+        → IfOk result (λ reported. IsKept (chosen_merge (policy_in rules.now)
+        asked.now.options.now.checks rules.now.file.now (bytes_of rules.now) (change_in rules.now)
         asked.now.options.now.policy (choice_in asked.now) current_runs baseline_runs)
         (upkeep_in asked.now) reported.life) }
     ensures unkept { (current_runs baseline_runs : List Placed)
         → AreTogether rules.now.file.now current_runs baseline_runs
         sides.now.current sides.now.baselines
-        → IfErr result (IsUnkept (chosen_merge asked.now.options.now.checks
-        rules.now.file.now (bytes_of rules.now) (change_in rules.now)
+        → IfErr result (IsUnkept (chosen_merge (policy_in rules.now)
+        asked.now.options.now.checks rules.now.file.now (bytes_of rules.now) (change_in rules.now)
         asked.now.options.now.policy (choice_in asked.now) current_runs baseline_runs)
         (upkeep_in asked.now)) }
 {
@@ -194,8 +195,9 @@ pub(crate) fn report_sides<R: Threads + Sync>(
     let narrowed = narrow_if(rt, alloc, rules.change, current, paired, asked.options)?;
     let change = facts_of(rules.change, &narrowed);
     let decided = rule_sides(rt, alloc, sides, rules, asked.options)?;
-    let lent = sides.lend(&narrowed);
-    let findings = tell_sides(rt, alloc, asked, &lent, &decided)?;
+    let ruled = rule_if(alloc, &decided, paired)?;
+    let lent = sides.lend(&narrowed, &decided, &ruled);
+    let findings = tell_sides(rt, alloc, asked, &lent)?;
     let life = keep_if_asked(rt, alloc, &lent, rules, asked)?;
     Ok(ReportedSides {
         findings,

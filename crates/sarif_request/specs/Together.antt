@@ -4,7 +4,7 @@ use Rattle.std.specs.Option.{option_or}
 use Rattle.sarif_entries.specs.Entries.{is_day}
 use Rattle.sarif_request.specs.declared.together.GivenOptions.{GivenOptions}
 use Rattle.sarif_request.specs.declared.together.Misfit.{Misfit}
-use Rattle.sarif_request.specs.declared.together.Misfit.TheVariants.{AcceptNeedsFile, PruneNeedsFile, FileNeedsChange, PruneNeedsEntries, ReasonNeedsAccept, PlaceNeedsAccept, RuleNeedsAccept, UnusedNeedsEntries, KnownWithAccept, AdoptNeedsKnown, UntilNeedsAccept, UntilNeedsToday, UntilIsNoDate, UntilIsPast, ScopeNeedsDiff, AbsentWithDiff, LevelWithPolicy, StatesWithPolicy, LimitWithPolicy, ScopeWithPolicy, AcceptWithPolicy, KnownWithPolicy}
+use Rattle.sarif_request.specs.declared.together.Misfit.TheVariants.{AcceptNeedsFile, PruneNeedsFile, FileNeedsChange, PruneNeedsEntries, ReasonNeedsAccept, PlaceNeedsAccept, RuleNeedsAccept, UnusedNeedsEntries, KnownWithAccept, AdoptNeedsKnown, UntilNeedsAccept, UntilNeedsToday, UntilIsNoDate, UntilIsPast, ScopeNeedsDiff, AbsentWithDiff, LevelWithPolicy, StatesWithPolicy, LimitWithPolicy, ScopeWithPolicy}
 
 -- an option is given without the one that it needs
 abbrev pub lacks : Bool → Bool → Bool
@@ -48,16 +48,14 @@ diff_misfit given =
     None))
 
 -- why the options of the gate don't go together, if they don't: a condition of a policy has its own level, states, limit
--- and scope, and accepting and the known log know only the hits of options
+-- and scope
 abbrev pub policy_misfit : GivenOptions → Option Misfit
 policy_misfit given =
     if given.policy && given.fail_on then Some LevelWithPolicy else (
     if given.policy && given.states then Some StatesWithPolicy else (
     if given.policy && given.max then Some LimitWithPolicy else (
     if given.policy && given.diff_scope then Some ScopeWithPolicy else (
-    if given.policy && given.accept then Some AcceptWithPolicy else (
-    if given.policy && given.known then Some KnownWithPolicy else (
-    None))))))
+    None))))
 
 -- why the options of the gate or of the change don't go together, if they don't
 abbrev pub gate_misfit : GivenOptions → Option Misfit

@@ -90,10 +90,6 @@ pub enum Misfit {
     LimitWithPolicy,
     /// Each condition of a policy says itself whether it is on the change, and in which scope.
     ScopeWithPolicy,
-    /// Accepting doesn't know the hits of conditions yet.
-    AcceptWithPolicy,
-    /// A known log doesn't know the hits of conditions yet.
-    KnownWithPolicy,
 }
 
 impl Misfit {
@@ -129,10 +125,6 @@ impl Misfit {
                 "--max and --policy cannot be used together: each condition has its own max",
             Misfit::ScopeWithPolicy =>
                 "--diff-scope and --policy cannot be used together: each condition has its own diff",
-            Misfit::AcceptWithPolicy =>
-                "--accept and --policy cannot be used together yet: accepting doesn't know the hits of conditions",
-            Misfit::KnownWithPolicy =>
-                "--known and --policy cannot be used together yet: a known log doesn't know the hits of conditions",
         }
     }
 }
@@ -165,10 +157,6 @@ fn policy_misfit(given: &GivenOptions) -> Option<Misfit>
         Some(Misfit::LimitWithPolicy)
     } else if given.policy && given.diff_scope {
         Some(Misfit::ScopeWithPolicy)
-    } else if given.policy && given.accept {
-        Some(Misfit::AcceptWithPolicy)
-    } else if given.policy && given.known {
-        Some(Misfit::KnownWithPolicy)
     } else {
         None
     }

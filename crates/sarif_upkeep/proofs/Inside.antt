@@ -1,5 +1,6 @@
 -- Accepting with a change is choosing what isn't hidden.
-use Rattle.std.proofs.Common.{◌≡◌, Bool, List, [], Some, map, length, sym, ap, ap₂, ◌∙◌, arith, if◌then◌else◌}
+use Rattle.std.proofs.Common.{◌≡◌, Bool, List, [], Some, None, map, length, sym, ap, ap₂, ◌∙◌, arith, if◌then◌else◌}
+use Rattle.std.specs.Prelude.{unwrap_or}
 use Rattle.sarif_evidence.specs.Seen.{as_matched}
 use Rattle.sarif_options.specs.declared.upkeep.Renewal.{Renewal}
 use Rattle.sarif_accept.specs.Adding.{accepted_among, may_hit, once_each}
@@ -12,8 +13,12 @@ use Rattle.sarif_upkeep.specs.Renewed.{absent_by, absent_hits, absent_stay, acce
 use Rattle.sarif_upkeep.proofs.WithoutHidden.{chosen_looked_at}
 
 module _ (m : Merge) (hidden : List Bool) where
-  pub none_absent : m.hidden ≡ Some hidden → absent_stay m ≡ 0
+  pub none_absent : m.hidden ≡ Some hidden → absent_by m.hidden (absent_hits (may_hit m.policy) m.file m.known m.taken) ≡ 0
   none_absent some = ap (λ h. absent_by h (absent_hits (may_hit m.policy) m.file m.known m.taken)) some
+
+  pub none_stay : m.hidden ≡ Some hidden → m.absent ≡ None → absent_stay m ≡ 0
+  none_stay some none =
+      ap (λ o. unwrap_or o (absent_by m.hidden (absent_hits (may_hit m.policy) m.file m.known m.taken))) none ∙ none_absent some
 
   pub accepted_shown : m.hidden ≡ Some hidden → length hidden ≡ length m.records → length m.states ≡ length m.records
       → accepted_in m ≡ accepted_in (choosing_shown hidden m)

@@ -1,6 +1,6 @@
 -- How many hits are alike and how many stay, and which are accepted, as a matched merge has them.
 use Rattle.std.proofs.Common.{◌≡◌, ℕ, Bool, true, false, List, [], ◌∷◌, Bor, Option, Some, None, map, length, refl, sym, ap, ◌∙◌, ◌+◌, subst}
-use Rattle.std.specs.Prelude.{option_map, IfSome}
+use Rattle.std.specs.Prelude.{◌≤◌, option_map, unwrap_or, IfSome}
 use Rattle.sarif_counts.specs.Hits.{count_if}
 use Rattle.sarif_entries.specs.declared.entry.Entry.{Entry}
 use Rattle.sarif_model.specs.declared.kinds.State.{State}
@@ -208,10 +208,25 @@ module _ (m : Merge) (matched : Matched) (is : IsMatched m matched) where
       ∙ ap (λ l. absent_hits (may_hit m.policy) m.file l matched.before.taken.now) is.before.records
       ∙ ap (λ l. absent_hits (may_hit m.policy) m.file m.known l) is.before.taken
 
+  -- how many absent results are hits by the options
+  abbrev by_options : ℕ
+  by_options = absent_by m.hidden (absent_hits (may_hit m.policy) m.file m.known m.taken)
+
   pub absent_of_all : matched.hidden ≡ None
-      → absent_hits (may_hit matched.policy) m.file matched.before.records.now matched.before.taken.now ≡ absent_stay m
+      → absent_hits (may_hit matched.policy) m.file matched.before.records.now matched.before.taken.now ≡ by_options
   absent_of_all none =
       absent_same ∙ sym (ap (λ h. absent_by h (absent_hits (may_hit m.policy) m.file m.known m.taken)) (hidden_none none))
 
-  pub absent_of_none : (hidden : Bor (List Bool)) → matched.hidden ≡ Some hidden → 0 ≡ absent_stay m
+  pub absent_of_none : (hidden : Bor (List Bool)) → matched.hidden ≡ Some hidden → 0 ≡ by_options
   absent_of_none hidden some = sym (none_absent m hidden.now (hidden_some hidden some))
+
+  pub absent_unruled : matched.absent ≡ None → by_options ≡ absent_stay m
+  absent_unruled none = ap (λ o. unwrap_or o by_options) (sym (sym is.absent ∙ none))
+
+  -- with conditions of a policy
+  pub absent_ruled : (hits : ℕ) → matched.absent ≡ Some hits → hits ≡ absent_stay m
+  absent_ruled hits some = ap (λ o. unwrap_or o by_options) (sym some ∙ is.absent)
+
+  pub absent_fewer : (hits : ℕ) → matched.absent ≡ Some hits → hits ≤ length matched.before.records.now
+  absent_fewer hits some =
+      subst (λ k. hits ≤ k) (sym (ap length is.before.records)) (subst (λ o. IfSome o (λ n. n ≤ length m.known)) (sym is.absent ∙ some) is.absent_few)

@@ -28,11 +28,13 @@ pub record Merge : Type 0 where
   pub runs : List Data
   pub records : List Record
   pub states : List State
-  -- the same states, and whether they are doubtful
+  -- the same states, whether they are doubtful, and with a policy whether each result is or would be a hit
   pub standings : List Standing
-  -- which of these are hidden from the gate, if it checks only a change: those that may be reported and are outside of
-  -- it; then absent results aren't hits
+  -- which of these are hidden from the gate. If it checks only a change, these are the results that may be reported and are
+  -- outside of it, and absent results aren't hits. With conditions of a policy they are all that aren't hits
   pub hidden : Marks
+  -- with conditions of a policy, how many absent results are hits
+  pub absent : Option ℕ
   -- which of all these are chosen hits, if not all hits are, and the first place or rule of the choice that fits none of them
   pub chosen : Marks
   pub misfit : Option At

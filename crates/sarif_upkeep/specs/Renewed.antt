@@ -1,5 +1,5 @@
 -- The new suppression file of a merge.
-use Rattle.std.specs.Prelude.{ℕ, ◌+◌, Bool, not, ◌&&◌, List, [], ◌∷◌, Option, Some, None, count_by, length, map, nat_lt, option_map, if◌then◌else◌}
+use Rattle.std.specs.Prelude.{ℕ, ◌+◌, Bool, not, ◌&&◌, List, [], ◌∷◌, Option, Some, None, count_by, length, map, nat_lt, option_map, unwrap_or, if◌then◌else◌}
 use Rattle.serde_json.specs.Data.{Data}
 use Rattle.sarif_model.specs.declared.fault.Fault.TheVariants.{TooMany}
 use Rattle.sarif_model.specs.declared.kinds.State.{State}
@@ -99,14 +99,16 @@ absent_hits counts file (r ∷ rs) (taken ∷ more) =
     count_if (not taken && is_hit counts (no_entries file) r Absent) 1
     + absent_hits counts file rs more
 
--- with a change no absent result is a hit
+-- without a policy: with a change no absent result is a hit
 abbrev pub absent_by : Marks → ℕ → ℕ
 absent_by None n = n
 absent_by (Some hidden) n = 0
 
 -- how many results of the baselines that the gate checks are hits
 abbrev pub absent_stay : Merge → ℕ
-absent_stay m = absent_by m.hidden (absent_hits (may_hit m.policy) m.file m.known m.taken)
+absent_stay m =
+    unwrap_or m.absent
+    (absent_by m.hidden (absent_hits (may_hit m.policy) m.file m.known m.taken))
 
 -- how many hits among current results stay hits; if not all are chosen, how many are neither accepted nor alike
 abbrev pub current_stay : Merge → Renewal → Marks → ℕ

@@ -24,7 +24,8 @@ pub fn accepting_is_of_all_without_a_change()
     ensures alike_told { (m : Merge) (renewal : Renewal) → m.hidden ≡ None
         → said.alike_told m renewal
         ≡ option_map (λ marks. count_if renewal.accept (said.alike_in m renewal marks)) m.chosen }
-    ensures stay { (m : Merge) (renewal : Renewal) → m.hidden ≡ None → said.stay_in m renewal
+    ensures stay { (m : Merge) (renewal : Renewal) → m.hidden ≡ None → m.absent ≡ None
+        → said.stay_in m renewal
         ≡ said.current_stay m renewal m.chosen
         + said.absent_hits (may_hit m.policy) m.file m.known m.taken }
     ensures all { (m : Merge) (renewal : Renewal) → m.hidden ≡ None
@@ -53,7 +54,7 @@ pub fn accepting_with_a_change_is_choosing()
         → m.hidden ≡ Some hidden
         → length hidden ≡ length m.records → length m.states ≡ length m.records
         → said.renewal_faults m renewal ≡ said.renewal_faults (choosing_shown hidden m) renewal }
-    ensures absent { (m : Merge) (hidden : List Bool) → m.hidden ≡ Some hidden
+    ensures absent { (m : Merge) (hidden : List Bool) → m.hidden ≡ Some hidden → m.absent ≡ None
         → said.absent_stay m ≡ 0 }
 {}
 

@@ -90,15 +90,28 @@ fn left_of_all(matched: &Matched<'_, '_, '_>) -> usize
     staying_among(matched.policy, records, drafts, states, matched.hidden)
 }
 
-/// Returns how many hits among results of the baselines stay: none with a change.
-fn absent_stay(matched: &Matched<'_, '_, '_>) -> usize
+/// Returns how many results of the baselines are hits by the options: none with a change.
+fn absent_by_options(matched: &Matched<'_, '_, '_>) -> usize
     requires { (m : Merge) × IsMatched m matched.now }
-    ensures count { (m : Merge) → IsMatched m matched.now → result ≡ said.absent_stay m }
+    ensures count { (m : Merge) → IsMatched m matched.now → result ≡ said.absent_by m.hidden
+        (said.absent_hits (may_hit m.policy) m.file m.known m.taken) }
     ensures few { result ≤ length matched.now.before.records.now }
 {
     match matched.hidden {
         None => absent_hits(matched.policy, matched.before.records, matched.before.taken),
         Some(_) => 0,
+    }
+}
+
+/// Returns how many hits among results of the baselines stay.
+fn absent_stay(matched: &Matched<'_, '_, '_>) -> usize
+    requires { (m : Merge) × IsMatched m matched.now }
+    ensures count { (m : Merge) → IsMatched m matched.now → result ≡ said.absent_stay m }
+    ensures few { result ≤ length matched.now.before.records.now }
+{
+    match matched.absent {
+        None => absent_by_options(matched),
+        Some(hits) => hits as usize,
     }
 }
 

@@ -18,7 +18,7 @@ pub struct Current<'m, 't: 'm, 'a: 't> {
     pub drafts: &'m [Draft],
     /// Their baseline states.
     pub states: &'m [State],
-    /// The same states, and whether they are doubtful.
+    /// The same states, whether they are doubtful, and with a policy whether each result is or would be a hit.
     pub standings: &'m [Standing],
 }
 
@@ -50,8 +50,10 @@ pub struct Matched<'m, 't: 'm, 'a: 't> {
     pub once: bool,
     /// Whether the known log has regions and snippets.
     pub regions: bool,
-    /// Which of the current results are hidden from the gate, if it checks only a change.
+    /// Which of the current results are hidden from the gate: with a change those outside, with a policy all that aren't hits.
     pub hidden: Option<&'m [bool]>,
+    /// With a policy, how many results of the baselines that no current result matches are hits.
+    pub absent: Option<u32>,
     /// Which of the current results are chosen hits, if not all hits are.
     pub chosen: Option<&'m [bool]>,
     /// The results of the input runs.

@@ -14,10 +14,13 @@ use Rattle.sarif_model.specs.declared.merge_fault.MergeFault.{MergeFault}
 use Rattle.sarif_model.specs.declared.refusal.Refusal.{Refusal}
 use Rattle.sarif_model.specs.declared.refusal.Refusal.TheVariants as refusal
 use Rattle.sarif_prepare.specs.Chosen.{at_of, chosen_merge}
+use Rattle.sarif_prepare.specs.Told.{of_all}
 use Rattle.sarif_prepare.specs.declared.asked.Asked.{Asked}
+use Rattle.sarif_prepare.specs.declared.ruled.RuledSides.{RuledSides}
 use Rattle.sarif_choice.specs.declared.choice.Choosing.{Choosing}
 use Rattle.sarif_prepare.specs.Internal.Telling.{told_as}
 use Rattle.sarif_results.specs.declared.draft.Draft.{Draft}
+use Rattle.sarif_policy.specs.declared.condition.GateCondition.{GateCondition}
 use Rattle.sarif_runs.specs.Placed.{Placed}
 use Rattle.sarif_scope.specs.declared.gated.GatedChange.{GatedChange}
 use Rattle.sarif_upkeep.specs.Life.{no_hit}
@@ -39,6 +42,13 @@ spread_told reporting (draft ∷ drafts) (state ∷ states) marks n =
     then get_or marks n false ∷ spread_told reporting drafts states marks (n + 1)
     else false ∷ spread_told reporting drafts states marks n
 
+-- the marks of the hits among the results of logs, and false for the others; if conditions decide, their hits
+abbrev pub spread_by : Option RuledSides → Reporting → List Draft → List (Option State) → List Bool
+    → List Bool
+spread_by None reporting drafts states marks = spread_told reporting drafts states marks 0
+spread_by (Some ruled) reporting drafts states marks =
+    spread_told (of_all reporting) drafts ruled.states.items marks 0
+
 -- whether each of these results, with its run, is shown and chosen
 abbrev pub marked_each : Reporting → Choice → List (Data × Data) → List Draft
     → List (Option State) → List Bool
@@ -54,9 +64,9 @@ abbrev pub rejected : Refusal Unfit → MergeFault
 rejected (refusal.Fault unfit) = no_hit (at_of unfit)
 rejected refusal.OutOfMemory = out_of_memory
 
--- the merge of these runs with this choice, and with the change if there is one
-abbrev pub merge_with : File → Option GatedChange → Asked → Choosing → List Placed → List Placed
-    → Merge
-merge_with file change asked choosing current_runs baseline_runs =
-    chosen_merge asked.options.now.checks file None change asked.options.now.policy
+-- the merge of these runs with this choice, and with the conditions and the change if there are some
+abbrev pub merge_with : Option (List GateCondition) → File → Option GatedChange → Asked → Choosing
+    → List Placed → List Placed → Merge
+merge_with conditions file change asked choosing current_runs baseline_runs =
+    chosen_merge conditions asked.options.now.checks file None change asked.options.now.policy
     (Some choosing) current_runs baseline_runs

@@ -48,6 +48,8 @@ pub record IsMatched (m : Merge) (matched : Matched) : Type 0 where
   pub regions : matched.regions ≡ m.regions
   pub hidden : option_map (λ marks. marks.now) matched.hidden ≡ m.hidden
   pub hidden_long : IfSome m.hidden (λ marks. length marks ≡ length m.records)
+  pub absent : matched.absent ≡ m.absent
+  pub absent_few : IfSome m.absent (λ hits. hits ≤ length m.known)
   pub chosen : option_map (λ marks. marks.now) matched.chosen ≡ m.chosen
   pub chosen_long : IfSome m.chosen (λ marks. length marks ≡ length m.records)
   pub fits : m.misfit ≡ None

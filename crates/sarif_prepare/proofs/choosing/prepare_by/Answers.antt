@@ -17,13 +17,13 @@ returns-then-asked-clause-prepared g c =
 pub returns-then-asked-clause-kept : goal.returns-then-asked-clause-kept
 returns-then-asked-clause-kept g c =
     subst (λ m. IfOk c.prepare_once.result (λ prepared. IsKept m (upkeep_in c.args.asked.now) prepared.life))
-    (merge_once c.args.asked.now.options.now.checks c.args.rules.now.file.now (bytes_of c.args.rules.now) (change_in c.args.rules.now) c.args.asked.now.options.now.policy
+    (merge_once (policy_in c.args.rules.now) c.args.asked.now.options.now.checks c.args.rules.now.file.now (bytes_of c.args.rules.now) (change_in c.args.rules.now) c.args.asked.now.options.now.policy
     (choice_in c.args.asked.now) (placed_in c.args.current) (placed_in c.args.baseline) c.if-asked.true) c.prepare_once.ensures.kept
 
 pub returns-then-asked-clause-unkept : goal.returns-then-asked-clause-unkept
 returns-then-asked-clause-unkept g c =
     subst (λ m. IfErr c.prepare_once.result (IsUnkept m (upkeep_in c.args.asked.now)))
-    (merge_once c.args.asked.now.options.now.checks c.args.rules.now.file.now (bytes_of c.args.rules.now) (change_in c.args.rules.now) c.args.asked.now.options.now.policy
+    (merge_once (policy_in c.args.rules.now) c.args.asked.now.options.now.checks c.args.rules.now.file.now (bytes_of c.args.rules.now) (change_in c.args.rules.now) c.args.asked.now.options.now.policy
     (choice_in c.args.asked.now) (placed_in c.args.current) (placed_in c.args.baseline) c.if-asked.true) c.prepare_once.ensures.unkept
 
 pub returns-else-asked-clause-prepared : goal.returns-else-asked-clause-prepared
@@ -35,13 +35,13 @@ returns-else-asked-clause-prepared g c =
 pub returns-else-asked-clause-kept : goal.returns-else-asked-clause-kept
 returns-else-asked-clause-kept g c =
     subst (λ m. IfOk c.prepare.result (λ prepared. IsKept m (upkeep_in c.args.asked.now) prepared.life))
-    (merge_all c.args.asked.now.options.now.checks c.args.rules.now.file.now (bytes_of c.args.rules.now) (change_in c.args.rules.now) c.args.asked.now.options.now.policy
+    (merge_all (policy_in c.args.rules.now) c.args.asked.now.options.now.checks c.args.rules.now.file.now (bytes_of c.args.rules.now) (change_in c.args.rules.now) c.args.asked.now.options.now.policy
     (choice_in c.args.asked.now) (placed_in c.args.current) (placed_in c.args.baseline) c.if-asked.false) c.prepare.ensures.kept
 
 pub returns-else-asked-clause-unkept : goal.returns-else-asked-clause-unkept
 returns-else-asked-clause-unkept g c =
     subst (λ m. IfErr c.prepare.result (IsUnkept m (upkeep_in c.args.asked.now)))
-    (merge_all c.args.asked.now.options.now.checks c.args.rules.now.file.now (bytes_of c.args.rules.now) (change_in c.args.rules.now) c.args.asked.now.options.now.policy
+    (merge_all (policy_in c.args.rules.now) c.args.asked.now.options.now.checks c.args.rules.now.file.now (bytes_of c.args.rules.now) (change_in c.args.rules.now) c.args.asked.now.options.now.policy
     (choice_in c.args.asked.now) (placed_in c.args.current) (placed_in c.args.baseline) c.if-asked.false) c.prepare.ensures.unkept
 
 pub returns-then-asked-clause-expired : goal.returns-then-asked-clause-expired

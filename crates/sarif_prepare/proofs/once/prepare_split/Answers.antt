@@ -123,7 +123,7 @@ returns-clause-kept g c = λ now before h.
     let tb = without_copies before in
     let options = c.args.asked.now.options.now in
     let rules = c.args.rules.now in
-    let merge = chosen_merge options.checks rules.file.now (bytes_of rules) (change_in rules) options.policy (choice_in c.args.asked.now) tn tb in
+    let merge = chosen_merge (policy_in rules) options.checks rules.file.now (bytes_of rules) (change_in rules) options.policy (choice_in c.args.asked.now) tn tb in
     subst (λ l. IsKept merge (upkeep_in c.args.asked.now) l) (sym c.put_together.ensures.life) (c.in_ok-reported.ensures.kept tn tb t)
 
 pub returns-in_err-reported-clause-unkept : goal.returns-in_err-reported-clause-unkept

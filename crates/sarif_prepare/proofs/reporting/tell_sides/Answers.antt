@@ -1,5 +1,6 @@
 use Rattle.std.proofs.Common.{◌≡◌, length, List, Option, Some, None, sym, ap, ◌∙◌}
 use Rattle.std.proofs.lemmas.Result.{IfOk-weaker}
+use Rattle.std.specs.Prelude.{option_map}
 use Rattle.sarif_conditions.specs.declared.decided.Decided.{Decided}
 use Rattle.sarif_deciding.specs.Matched.{Matched}
 use Rattle.sarif_deciding.specs.Ruling.{ruling_in}
@@ -29,14 +30,15 @@ some_decided m asked runs None d some found is = let e : Some d ≡ None = some 
 some_decided m asked runs (Some cs) d some found is = is cs (ap (impacts_or d.impacts) some)
 
 pub tell_ruled-requires-clause-each : goal.tell_ruled-requires-clause-each
-tell_ruled-requires-clause-each g c κs within = ap length c.as_slice.ensures ∙ c.requires.each c.in-Some.decided c.in-Some.is
+tell_ruled-requires-clause-each g c κs within =
+    ap length c.as_slice.ensures ∙ c.requires.each c.in-Some.decided.now (ap (option_map (λ d. d.now)) c.in-Some.is)
 
 pub returns-in-Some : goal.returns-in-Some
 returns-in-Some g c =
     let v = c.args.asked.now.options.now.checks.matching in
     IfOk-weaker c.tell_ruled.result _ _ (λ findings is. λ file now before h change k conditions same.
-    some_decided (matched_in v file change now before) (reporting_in c.args.asked.now) (runs_by v file now before) conditions c.in-Some.decided
-    (sym c.in-Some.is ∙ same) findings.items (λ cs impacts. is file now before h change cs (c.as_slice.ensures ∙ impacts)))
+    some_decided (matched_in v file change now before) (reporting_in c.args.asked.now) (runs_by v file now before) conditions
+    c.in-Some.decided.now (sym (ap (option_map (λ d. d.now)) c.in-Some.is) ∙ same) findings.items (λ cs impacts. is file now before h change cs (c.as_slice.ensures ∙ impacts)))
     c.tell_ruled.ensures
 
 pub returns-in-None : goal.returns-in-None
@@ -44,5 +46,5 @@ returns-in-None g c =
     let v = c.args.asked.now.options.now.checks.matching in
     IfOk-weaker c.tell_results.result _ _ (λ findings is. λ file now before h change k conditions same.
     none_decided (matched_in v file change now before) (reporting_in c.args.asked.now) (runs_by v file now before) conditions
-    (sym c.in-None.is ∙ same) findings.items (is file now before h change k))
+    (sym (ap (option_map (λ d. d.now)) c.in-None.is) ∙ same) findings.items (is file now before h change k))
     c.tell_results.ensures

@@ -1,5 +1,5 @@
-use Rattle.std.proofs.Common.{◌+◌, length, ap}
-use Rattle.std.specs.Prelude.{option_map}
+use Rattle.std.proofs.Common.{◌+◌, length, ap, ◌∙◌}
+use Rattle.std.specs.Prelude.{option_map, unwrap_or}
 use Rattle.sarif_counts.specs.Hits.{count_if}
 use Rattle.sarif_accept.specs.Adding.{may_hit}
 use Rattle.sarif_accept.specs.Choosing.{accepted_by, added_by, alike_among, others_among}
@@ -24,8 +24,10 @@ returns-clause-alike_told c = λ m renewal none.
     ap (λ h. option_map (λ marks. count_if renewal.accept (alike_in m renewal marks)) (marks_by h m.chosen)) none
 
 pub returns-clause-stay : goal.returns-clause-stay
-returns-clause-stay c = λ m renewal none.
-    ap (λ h. current_stay m renewal (marks_by h m.chosen) + absent_by h (absent_hits (may_hit m.policy) m.file m.known m.taken)) none
+returns-clause-stay c = λ m renewal none absent.
+    ap (λ o. current_stay m renewal (marks_by m.hidden m.chosen)
+    + unwrap_or o (absent_by m.hidden (absent_hits (may_hit m.policy) m.file m.known m.taken))) absent
+    ∙ ap (λ h. current_stay m renewal (marks_by h m.chosen) + absent_by h (absent_hits (may_hit m.policy) m.file m.known m.taken)) none
 
 pub returns-clause-all : goal.returns-clause-all
 returns-clause-all c = λ m renewal none.

@@ -23,10 +23,12 @@ returns-in_err-prepared-clause-refused g c =
     let p = err_from_is_err_and c.from_residual.result c.from_residual.ensures.1 in
     let is : c.from_residual.result ≡ Err fault = rw (p.1, p.2) refl in
     let looked = subst (IsChangeIn c.args.self.now) (sym c.change_of.ensures) c.requires.change in
+    let asked = subst (IsPolicyIn c.args.self.now) (sym c.policy_of.ensures) c.requires.policy in
     subst (λ r. IfErr r (IsRejection c.args.self.now)) (sym is)
-    (rejected_life c.args.self.now (option_map (λ b. b.now) c.slice_of.result) c.args.files.now.file.now (option_map (λ b. b.now) c.change_of.result)
+    (rejected_life c.args.self.now (option_map (λ b. b.now) c.slice_of.result) c.args.files.now.file.now
+    (option_map (λ p. p.now.conditions) c.policy_of.result) (option_map (λ b. b.now) c.change_of.result)
     c.args.logs c.args.baselines fault
-    c.requires.file looked c.requires.logs c.requires.baselines c.slice_of.ensures c.in_err-prepared.ensures.unkept)
+    c.requires.file asked looked c.requires.logs c.requires.baselines c.slice_of.ensures c.in_err-prepared.ensures.unkept)
 
 pub returns-clause-prepared : goal.returns-clause-prepared
 returns-clause-prepared g c =
