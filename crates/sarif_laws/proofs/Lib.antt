@@ -16,6 +16,7 @@ pub mod HitsTold
 pub mod IgnoredLog
 pub mod Joined
 pub mod Keyed
+pub mod KnownByConditions
 pub mod KnownRuns
 pub mod LaterResults
 pub mod Left

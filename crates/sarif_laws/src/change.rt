@@ -1,11 +1,12 @@
 //! Laws of whole merges whose gate checks a change, each the contract of a function that does nothing.
-ghost use Rattle.std.specs.Prelude.{◌≡◌, ◌+◌, ◌≤◌, false, Option, Some, None, [], count_by};
+ghost use Rattle.std.specs.Prelude.{◌≡◌, ◌+◌, ◌≤◌, ℕ, false, List, Option, Some, None, [], count_by};
 ghost use Rattle.serde_json.specs.Data.{Data};
 ghost use Rattle.sarif_choice.specs.declared.choice.Choosing.{Choosing};
 ghost use Rattle.sarif_counts.specs.CountOf.{count_of};
 ghost use Rattle.sarif_counts.specs.Gate.{gate_of};
 ghost use Rattle.sarif_counts.specs.Hits.{hits_of, verdict_of};
 ghost use Rattle.sarif_counts.specs.declared.gate_verdict.Verdict.TheVariants.{Fail};
+ghost use Rattle.sarif_entries.specs.File.{File};
 ghost use Rattle.sarif_inputs.specs.Faults.{faults_of};
 ghost use Rattle.sarif_inputs.specs.Inputs.{Inputs};
 ghost use Rattle.sarif_inputs.specs.PolicyIn.{faults_of_policy, policy_read};
@@ -13,9 +14,13 @@ ghost use Rattle.sarif_log.specs.Copies.{naming};
 ghost use Rattle.sarif_log.specs.Log.{log_with};
 ghost use Rattle.sarif_merge.specs.Life.{merge_counted};
 ghost use Rattle.sarif_merge.specs.MergedLog as log;
+ghost use Rattle.sarif_options.specs.declared.checks.Checks.{Checks};
 ghost use Rattle.sarif_options.specs.declared.policy.Policy.{Policy};
 ghost use Rattle.sarif_options.specs.declared.upkeep.Knowing.{Knowing};
 ghost use Rattle.sarif_options.specs.declared.upkeep.Renewal.{Renewal};
+ghost use Rattle.sarif_policy.specs.declared.condition.GateCondition.{GateCondition};
+ghost use Rattle.sarif_prepare.specs.By.{merge_by};
+ghost use Rattle.sarif_runs.specs.Placed.{Placed};
 ghost use Rattle.sarif_scope.specs.Counted.{outside_of, verdict_by};
 ghost use Rattle.sarif_scope.specs.declared.gated.GatedChange.{GatedChange};
 ghost use Rattle.sarif_upkeep.specs.Known.{remembered};
@@ -65,7 +70,8 @@ pub fn without_a_diff_all_hits_count()
 {}
 
 /// Without a policy, a diff changes neither the known log nor the list of unused entries, nor the new suppression file if no
-/// hits are accepted: only accepting depends on the hits of the gate.
+/// hits are accepted: only accepting depends on the hits of the gate. With the conditions of a policy the known log doesn't
+/// depend on the change either.
 pub fn a_diff_changes_no_known_log()
     ensures known { (inputs : Inputs) (policy : Policy) (choice : Option Choosing)
         (knowing : Knowing) → inputs.policy ≡ None
@@ -78,6 +84,13 @@ pub fn a_diff_changes_no_known_log()
         (renewal : Renewal) → inputs.policy ≡ None → renewal.accept ≡ false
         → renewed (merge_counted inputs policy choice) renewal
         ≡ renewed (merge_counted (without_diff inputs) policy choice) renewal }
+    ensures by_conditions { (conditions : List GateCondition) (checks : Checks) (file : File)
+        (bytes : Option (List ℕ)) (change : Option GatedChange) (policy : Policy)
+        (choice : Option Choosing) (now before : List Placed) (knowing : Knowing)
+        → remembered (merge_by (Some conditions) checks file bytes change policy choice
+        now before) knowing
+        ≡ remembered (merge_by (Some conditions) checks file bytes None policy choice
+        now before) knowing }
 {}
 
 /// A hit that may be in the change is a hit of the gate. It is a result of the runs that are counted, current, and a
