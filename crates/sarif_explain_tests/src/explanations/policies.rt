@@ -212,7 +212,7 @@ const BAD: [[&str; 4]; 15] = [
     [
         r#"{"name":"b","ratchet":true,"diff":"files"}"#,
         "/conditions/1",
-        r#"{"name":"b","ratchet":true,"diff":"files"}"#,
+        r#"{"diff":"files","name":"b","ratchet":true}"#,
         "at most one of a ratchet, a diff and the state absent",
     ],
 ];
