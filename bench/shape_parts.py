@@ -34,6 +34,8 @@ class Input:
     once: bool = False
     # The diff of a change.
     diff: Optional[str] = None
+    # The policy.
+    policy: Optional[str] = None
 
     def files(self, folder):
         """Writes the files. Returns the arguments that merge them."""
@@ -53,6 +55,8 @@ class Input:
         words += ["--once"] * self.once
         if self.diff is not None:
             words += ["--diff", put(folder / "diff", self.diff)]
+        if self.policy is not None:
+            words += ["--policy", put(folder / "policy", self.policy)]
         return [*words, *(put(folder / f"log{n}", text) for n, text in enumerate(self.logs))]
 
     def statuses(self):
@@ -60,7 +64,7 @@ class Input:
         return [2] if self.is_too_long else [0, 1]
 
     def bytes(self):
-        return sum(map(len, [*self.logs, *self.baselines, self.suppress or "", self.diff or ""]))
+        return sum(map(len, [*self.logs, *self.baselines, self.suppress or "", self.diff or "", self.policy or ""]))
 
 
 def put(path, text):

@@ -13,6 +13,7 @@ from shapes_change import SHAPES as OF_CHANGES
 from shapes_fifth import accepted_by_snippet, entries_and_long_snippet, entries_of_one_snippet, entries_of_snippets
 from shapes_fifth import an_entry_that_admits_all, entries_used_up_in_turn, entries_with_max, long_entry_and_used_up_ones
 from shapes_fifth import message_entries_and_long_snippet, of_message, of_print
+from shapes_policy import SHAPES as OF_POLICIES
 from shapes_shown import told_files, told_long_snippets, told_names, told_snippets
 
 # ---- A long string that many results share
@@ -675,6 +676,7 @@ SHAPES = {
     "entries_max_long": (long_entry_and_used_up_ones, 200),
     "entry_max_of_all": (an_entry_that_admits_all, 100_000),
     **OF_CHANGES,
+    **OF_POLICIES,
 }
 # The same in version 2.
 BOTH_VERSIONS = (

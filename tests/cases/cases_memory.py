@@ -140,6 +140,7 @@ POLICY = text(
             {"name": "rated", "level": "note", "minSecuritySeverity": "7.0", "only": [{"tool": "lint"}, {"uriPrefix": "gen/"}]},
             {"name": "no more", "states": ["new"], "ratchet": True, "except": [{"fingerprints": {"f/v1": "x"}}], "max": 1},
             {"name": "all", "level": "none", "max": 100},
+            {"name": "listed", "only": [{"ruleId": f"R{n}"} for n in range(9)], "max": 100},
         ],
     }
 )

@@ -10,6 +10,7 @@ pub mod OnceMore
 pub mod OutsideMore
 pub mod PartsMore
 pub mod PathsMore
+pub mod PlainUri
 pub mod RaisedMore
 pub mod SharedMore
 pub mod TreeMore

@@ -1,5 +1,5 @@
 -- Symbolic links by the parts of a key, and what an index finds.
-use Rattle.std.proofs.Common.{◌≡◌, ℕ, Bool, true, false, ◌&&◌, ◌||◌, List, [], ◌∷◌, ◌++◌, length, take, Option, Some, None, refl, sym, ap, ◌∙◌, arith}
+use Rattle.std.proofs.Common.{◌≡◌, ℕ, Bool, true, false, ◌&&◌, ◌||◌, List, [], ◌∷◌, ◌++◌, take, Option, Some, None, refl, ap, ◌∙◌, arith}
 use Rattle.std.proofs.lemmas.Bool.{and_parts}
 use Rattle.std.specs.Prelude.{is_none}
 use Rattle.std.specs.List.{list_any, list_all}
@@ -11,7 +11,6 @@ use Rattle.sarif_change.specs.Internal.Index.{IsIndex, tree_files, sought_parts,
 use Rattle.sarif_change.specs.Internal.Keys.{joined, has_no_slash}
 use Rattle.sarif_change.specs.declared.file.ChangedFile.{ChangedFile}
 use Rattle.sarif_change.proofs.JoinedMore.{pieces_joined}
-use Rattle.sarif_diff.proofs.PiecesMore.{none_left}
 
 abbrev pub linked : Option (List ChangedFile) → Option Span → List ℕ → Bool
 linked links lines part = list_any (found_at (part ++ 47 ∷ []) lines) (tree_files links)

@@ -1,11 +1,7 @@
 -- The paths that a URI may represent.
-use Rattle.std.proofs.Common.{◌≡◌, ◌<◌, ℕ, Bool, true, false, ◌||◌, Option, List, [], ◌∷◌, ◌++◌, length, map, drop, get_or, refl, sym, ap, ◌∙◌, arith}
-use Rattle.std.proofs.lemmas.Bool.{and_parts}
-use Rattle.std.specs.List.{list_any, list_all}
-use Rattle.sarif_diff.specs.declared.section.Section.{Section}
-use Rattle.sarif_diff.specs.declared.section.Span.{Span}
-use Rattle.sarif_change.specs.Internal.Index.{is_found}
-use Rattle.sarif_change.specs.Internal.Keys.{joined, has_no_slash}
+use Rattle.std.proofs.Common.{◌≡◌, ◌<◌, ℕ, Bool, true, List, [], ◌∷◌, ◌++◌, length, map, drop, get_or, refl, sym, ap, ◌∙◌, arith}
+use Rattle.std.specs.List.{list_all}
+use Rattle.sarif_change.specs.Internal.Keys.{has_no_slash}
 use Rattle.sarif_change.specs.declared.uri.SoughtPath.{SoughtPath}
 use Rattle.sarif_change.proofs.JoinedMore.{parts_clean}
 use Rattle.std.proofs.lemmas.List.{append-nil, append_assoc}

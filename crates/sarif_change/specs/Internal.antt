@@ -1,7 +1,6 @@
 pub mod Files
 pub mod Index
 pub mod Keys
-pub mod Located
 pub mod NamesSeen
 pub mod Raised
 pub mod Sought

@@ -2,6 +2,7 @@ pub mod Internal
 pub mod Joined
 pub mod Known
 pub mod Meeting
+pub mod Named
 pub mod Outside
 pub mod Parts
 pub mod Places

@@ -6,11 +6,11 @@ ghost use Rattle.sarif_change.specs.Joined.{sections_joined};
 ghost use Rattle.sarif_change.specs.Meeting as meeting;
 ghost use Rattle.sarif_change.specs.Outside as said;
 ghost use Rattle.sarif_change.specs.Parts.{pieces_of};
-ghost use Rattle.sarif_change.specs.Uri.{Path};
+ghost use Rattle.sarif_change.specs.Uri.{Path, readings_of};
 ghost use Rattle.sarif_change.specs.Internal.Files.{any_changed, found_at};
 ghost use Rattle.sarif_change.specs.Internal.Index.{tree_files, sought_parts, is_found, is_linked};
 ghost use Rattle.sarif_change.specs.Internal.Keys.{joined, has_no_slash};
-ghost use Rattle.sarif_change.specs.Internal.Sought.{seen, keyed};
+ghost use Rattle.sarif_change.specs.Internal.Sought.{seen, keyed, four_times};
 ghost use Rattle.sarif_change.specs.declared.spots.Spot.{Spot as OneSpot};
 
 use crate::found::is_any_changed;
@@ -21,7 +21,7 @@ use crate::once::parts_once;
 use crate::parts::first_part;
 use crate::spots::{Scope, Spot, Spots};
 use crate::tree::Tree;
-use crate::uri::{SoughtPath, paths_of};
+use crate::uri::{SoughtPath, is_plain, paths_of, plain_path};
 use sarif_diff::{Section, Span};
 use sarif_model::{Region, Sequence, Text};
 use std::alloc::{AllocError, Global};
@@ -228,7 +228,26 @@ impl Changed {
 }
 
 impl Changed {
-    /// Returns the changed lines of the files that this URI may be. Returns `AllocError` if memory runs out.
+    /// Returns the changed lines of the files that a URI without `%`, `?` and `#` may be, which represents one path.
+    #[tactic(auto, using(crate::proofs::FoundMore::all_found, crate::proofs::PlainUri::plain_clean, crate::proofs::PlainUri::plain_found))]
+    fn look_up_plain<'c>(
+        &'c self,
+        alloc: Global,
+        roots: &[Text],
+        uri: &[u8],
+    ) -> Result<Vec<&'c ChangedLines>, AllocError>
+        requires { readings_of uri.now ≡ four_times uri.now }
+        ensures { IfOk result (λ found. (lines : Option OneSpan)
+            → any_changed lines found.items ≡ meeting.meets self.now roots.now uri.now lines) }
+    {
+        let path = plain_path(alloc, roots, uri)?;
+        let mut found = Vec::new(alloc);
+        self.find_path(alloc, &mut found, &path)?;
+        Ok(found)
+    }
+
+    /// Returns the changed lines of the files that this URI may be. Most URIs represent one path: then only that is looked
+    /// up. Returns `AllocError` if memory runs out.
     #[tactic(auto, using(crate::proofs::FoundMore::all_found, crate::proofs::PathsMore::paths_clean))]
     pub(crate) fn look_up<'c>(
         &'c self,
@@ -239,7 +258,11 @@ impl Changed {
         ensures { IfOk result (λ found. (lines : Option OneSpan)
             → any_changed lines found.items ≡ meeting.meets self.now roots.now uri.now lines) }
     {
-        let paths = paths_of(alloc, roots, uri.as_bytes())?;
+        let uri = uri.as_bytes();
+        if is_plain(uri) {
+            return self.look_up_plain(alloc, roots, uri);
+        }
+        let paths = paths_of(alloc, roots, uri)?;
         let mut found = Vec::new(alloc);
         self.find_paths(alloc, &mut found, paths.as_slice())?;
         Ok(found)

@@ -29,3 +29,34 @@ pub struct Spots {
     /// Whether a step of a code flow has an `index` and no location: it is kept elsewhere in the run.
     pub elsewhere: bool,
 }
+
+/// How a location names its artifact (SARIF 2.1.0, "artifactLocation object").
+#[derive(Clone, Copy)]
+pub enum ArtifactName<'a> {
+    /// Not at all, or by a `uri` that is not a string.
+    Unnamed,
+    /// By this `uri`.
+    Uri(&'a str),
+    /// By this `index` of an artifact of the run.
+    Index(u64),
+}
+
+/// A place of a result as its log says it.
+#[derive(Clone, Copy)]
+pub struct NamedPlace<'a> {
+    /// How it names its artifact.
+    pub artifact: ArtifactName<'a>,
+    /// Its region, if that has lines, as in [`Spot`].
+    pub region: Option<Region>,
+}
+
+/// The places of a result as its log says them, as in [`Spots`].
+#[derive(Drop)]
+pub struct NamedPlaces<'a> {
+    /// Its `locations`; empty if that member is not an array.
+    pub locations: Vec<NamedPlace<'a>>,
+    /// Its related locations, and the steps of its code flows.
+    pub others: Vec<NamedPlace<'a>>,
+    /// Whether a step of a code flow has an `index` and no location: it is kept elsewhere in the run.
+    pub elsewhere: bool,
+}

@@ -1,11 +1,11 @@
 //! The paths that a URI may represent.
 ghost use Rattle.std.specs.Prelude.{◌≡◌, ◌≤◌, ◌<◌, ◌++◌, ◌∷◌, [], true, IfOk, OnOk, length, map, option_map, is_some, position, if◌then◌else◌};
-ghost use Rattle.std.specs.List.{position_or_len};
+ghost use Rattle.std.specs.List.{list_any, position_or_len};
 ghost use Rattle.std.specs.Option.{option_to_list};
 ghost use Rattle.std.specs.Char.{is_ascii_hexdigit};
 ghost use Rattle.sarif_change.specs.Uri as said;
 ghost use Rattle.sarif_change.specs.Parts.{parts_of};
-ghost use Rattle.sarif_change.specs.Internal.Sought.{seen, keyed, rooted_keys, all_readings};
+ghost use Rattle.sarif_change.specs.Internal.Sought.{seen, keyed, rooted_keys, all_readings, four_times, is_special, plain_path};
 
 use crate::parts::key_of;
 use sarif_model::Text;
@@ -266,4 +266,45 @@ pub(crate) fn paths_of(
     }
     let own = own_paths(alloc, &readings)?;
     Ok(own)
+}
+
+/// Returns whether one of the bytes is `%`, `?` or `#`.
+fn has_special(uri: &[u8]) -> bool
+    ensures { result ≡ list_any is_special uri.now }
+{
+    uri.iter().any(|b| *b == b'%' || *b == b'?' || *b == b'#')
+}
+
+/// Returns whether a URI has no `%`, `?` and `#`. Then all its readings are the URI itself.
+#[tactic(auto, using(crate::proofs::PlainUri::one_reading))]
+pub(crate) fn is_plain(uri: &[u8]) -> bool
+    ensures { result ≡ true → said.readings_of uri.now ≡ four_times uri.now }
+{
+    !has_special(uri)
+}
+
+/// Returns the path that a URI without `%`, `?` and `#` represents, with these roots.
+pub(crate) fn plain_path(
+    alloc: Global,
+    roots: &[Text],
+    uri: &[u8],
+) -> Result<SoughtPath, AllocError>
+    ensures { IfOk result (λ path. seen path ≡ keyed (plain_path roots.now uri.now)) }
+{
+    match after_root(roots, uri) {
+        Some(rest) => {
+            let key = key_of(alloc, rest)?;
+            Ok(SoughtPath {
+                absolute: false,
+                key,
+            })
+        }
+        None => {
+            let key = key_of(alloc, uri)?;
+            Ok(SoughtPath {
+                absolute: is_absolute(uri),
+                key,
+            })
+        }
+    }
 }

@@ -1,5 +1,5 @@
 -- The current results among all.
-use Rattle.std.proofs.Common.{◌≡◌, Bool, true, false, not, ◌&&◌, ◌||◌, List, [], ◌∷◌, map, refl, sym, ap, ◌∙◌, if◌then◌else◌}
+use Rattle.std.proofs.Common.{◌≡◌, Bool, true, false, not, ◌&&◌, ◌||◌, List, [], ◌∷◌, map, refl, ap, ◌∙◌, if◌then◌else◌}
 use Rattle.std.specs.List.{list_any}
 use Rattle.sarif_model.specs.declared.record.Record.{Record}
 use Rattle.sarif_conditions.specs.Decided.{currents, is_absent}

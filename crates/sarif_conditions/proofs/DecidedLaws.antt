@@ -1,5 +1,5 @@
 -- Laws of what the conditions of a policy decide.
-use Rattle.std.proofs.Common.{◌≡◌, ◌↔◌, ℕ, zero, suc, ◌+◌, ◌<◌, ◌≤◌, Bool, true, false, not, ◌&&◌, ◌||◌, if◌then◌else◌, List, [], ◌∷◌, ◌++◌, length, Option, Some, None, IsTrue, refl, sym, ap, ◌∙◌, arith}
+use Rattle.std.proofs.Common.{◌≡◌, ◌↔◌, ℕ, zero, suc, ◌+◌, ◌<◌, ◌≤◌, Bool, true, false, not, ◌&&◌, ◌||◌, if◌then◌else◌, List, [], ◌∷◌, ◌++◌, Option, None, IsTrue, refl, sym, ap, ◌∙◌, arith}
 use Rattle.std.specs.Prelude.{nat_lt}
 use Rattle.std.specs.Prelude.{IsPermutation}
 use Rattle.std.specs.List.{Contains, list_any, count_by}
@@ -13,16 +13,16 @@ use mathlib.Core.Bool.{or-true, or-false, or_assoc}
 use Rattle.sarif_change.specs.declared.spots.Scope.{Scope}
 use Rattle.sarif_counts.specs.declared.gate_verdict.Verdict.TheVariants.{Pass, Fail}
 use Rattle.sarif_model.specs.Level.{is_at_least}
-use Rattle.sarif_options.specs.Policy.{are_hits, is_listed}
+use Rattle.sarif_options.specs.Policy.{is_listed}
 use Rattle.sarif_options.specs.declared.policy.Policy.{Policy}
 use Rattle.sarif_policy.specs.declared.condition.GateCondition.{GateCondition}
 use Rattle.sarif_entries.specs.declared.entry.Entry.{Entry}
 use Rattle.sarif_entries.specs.Matching.{matches}
 use Rattle.sarif_policy.specs.Condition.{any_matches}
 use Rattle.sarif_scope.specs.Counted.{verdict_on}
-use Rattle.sarif_conditions.specs.Decided.{asks_for, is_hit_of, is_hit, hits_of, limit_of, is_failing, verdict_of, went_away, is_absent, is_inside, meets_minimum}
+use Rattle.sarif_conditions.specs.Decided.{asks_for, is_hit_of, is_hit, hits_of, limit_of, is_failing, verdict_of, went_away, is_absent, is_inside, is_reported, meets_minimum}
 use Rattle.sarif_conditions.specs.Facts.{facts_of, facts_of_condition, verdict_if, verdict_told}
-use Rattle.sarif_conditions.specs.Options.{condition_of_options, is_hit_by_options}
+use Rattle.sarif_conditions.specs.Options.{condition_of_options, is_hit_by_options, is_reported_by_options}
 use Rattle.sarif_conditions.specs.Split.{with_only, with_except}
 use Rattle.sarif_conditions.specs.declared.facts.ConditionFacts.{ConditionFacts}
 use Rattle.sarif_conditions.specs.Judged.{Judged}
@@ -40,7 +40,7 @@ any_there {X = X} p (x ∷ xs) t = by_first (any_there p xs) (p x) refl t
         let found = rest more in
         (found.0, (suc found.1.0, omega (arith, found.1.1), found.1.2), found.2)
 
-there_any : {X : Type 0} (p : X → Bool) (xs : List X) (x : X) → Contains xs x → p x ≡ true → list_any p xs ≡ true
+pub there_any : {X : Type 0} (p : X → Bool) (xs : List X) (x : X) → Contains xs x → p x ≡ true → list_any p xs ≡ true
 there_any p [] x (k, within, is) t = absurd (omega (arith, within))
 there_any p (y ∷ ys) x (zero, within, is) t = rw (is, t) refl
 there_any p (y ∷ ys) x (suc k, within, is) t =
@@ -62,7 +62,7 @@ any_permuted p xs ys same = by_test (list_any p xs) refl (list_any p ys) refl
     by_test false one false two = one ∙ sym two
 
 -- what fewer elements pass
-count_less : {X : Type 0} (p q : X → Bool) → ((x : X) → p x ≡ true → q x ≡ true) → (xs : List X) → count_by p xs ≤ count_by q xs
+pub count_less : {X : Type 0} (p q : X → Bool) → ((x : X) → p x ≡ true → q x ≡ true) → (xs : List X) → count_by p xs ≤ count_by q xs
 count_less p q each xs =
     sum_by-le-sum_by (λ x. if p x then 1 else 0) (λ x. if q x then 1 else 0) xs (λ x. no_more (p x) (q x) (each x))
   where
@@ -147,6 +147,16 @@ pub one_condition : (name : List ℕ) (policy : Policy) (diff : Option Scope) (r
     → is_hit (condition_of_options name policy diff ∷ []) r ≡ is_hit_by_options policy diff r
 one_condition name policy diff r =
     shuffled (not r.suppressed) (is_at_least policy.fail_on r.level) (is_listed policy.states r.state) (is_inside diff r)
+
+reported_shuffled : (a b c : Bool) → (a && true && b && c || false) ≡ (a && (b && c))
+reported_shuffled false b c = refl
+reported_shuffled true false c = refl
+reported_shuffled true true false = refl
+reported_shuffled true true true = refl
+
+pub one_reported : (name : List ℕ) (policy : Policy) (diff : Option Scope) (r : Judged)
+    → is_reported (condition_of_options name policy diff ∷ []) r ≡ is_reported_by_options policy diff r
+one_reported name policy diff r = reported_shuffled (not r.suppressed) (is_listed policy.states r.state) (is_inside diff r)
 
 count_same : {X : Type 0} (p q : X → Bool) → ((x : X) → p x ≡ q x) → (xs : List X) → count_by p xs ≡ count_by q xs
 count_same p q each [] = refl

@@ -1,7 +1,7 @@
 -- What conditions decide together, with one condition more.
-use Rattle.std.proofs.Common.{◌≡◌, ℕ, ◌+◌, ◌≤◌, Bool, true, false, not, ◌&&◌, ◌||◌, List, [], ◌∷◌, ◌++◌, length, map, min, Option, Some, None, refl, sym, ap, ◌∙◌, arith, nat_lt, if◌then◌else◌}
+use Rattle.std.proofs.Common.{◌≡◌, ℕ, ◌+◌, Bool, true, false, not, ◌&&◌, ◌||◌, List, [], ◌∷◌, ◌++◌, length, map, min, Option, refl, sym, ap, ◌∙◌, arith, nat_lt, if◌then◌else◌}
 use mathlib.Core.Bool.{or-false}
-use Rattle.std.specs.List.{list_any, count_by, sum_by}
+use Rattle.std.specs.List.{list_any, count_by}
 use Rattle.std.proofs.lemmas.List.{map-append, length-map}
 use Rattle.std.proofs.lemmas.List.Folds.{fold-map, list_any-append}
 use Rattle.std.proofs.lemmas.List.Sums.{sum_by-append, sum_by_push}
@@ -202,10 +202,6 @@ map_twice f g (x ∷ xs) = rw (map_twice f g xs) refl
 pub before_same : (rs : List JudgedResult) (ss : List Standing) → ss ≡ map (λ r. standing_before (judged_of r)) rs
     → ss ≡ map standing_before (map judged_of rs)
 before_same rs ss is = is ∙ map_twice judged_of standing_before rs
-
-pub outcomes_same : (c : GateCondition) (rs : List JudgedResult) (os : List Outcome) → os ≡ map (λ r. outcome_of c (judged_of r)) rs
-    → os ≡ map (outcome_of c) (map judged_of rs)
-outcomes_same c rs os is = is ∙ map_twice judged_of (outcome_of c) rs
 
 -- ---- the filters of a condition
 

@@ -1,5 +1,5 @@
 -- What the conditions of a policy decide about the results of a merge.
-use Rattle.std.specs.Prelude.{◌≡◌, ℕ, ◌+◌, Bool, true, false, not, ◌&&◌, List, [], ◌∷◌, ◌++◌, Option, Some, None, nat_lt, unwrap_or, if◌then◌else◌}
+use Rattle.std.specs.Prelude.{ℕ, ◌+◌, Bool, true, false, not, ◌&&◌, List, [], ◌∷◌, ◌++◌, Option, Some, None, nat_lt, unwrap_or, if◌then◌else◌}
 use Rattle.std.specs.List.{list_any, count_by, sum_by}
 use Rattle.sarif_change.specs.declared.spots.Scope.{Scope}
 use Rattle.sarif_change.specs.declared.spots.Scope.TheVariants.{Lines, Files}

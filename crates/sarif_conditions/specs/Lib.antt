@@ -1,3 +1,4 @@
+pub mod Accepting
 pub mod Decided
 pub mod Facts
 pub mod Gate

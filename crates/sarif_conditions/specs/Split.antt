@@ -1,5 +1,5 @@
 -- A condition in two parts.
-use Rattle.std.specs.Prelude.{List, [], ◌∷◌, Some}
+use Rattle.std.specs.Prelude.{[], ◌∷◌, Some}
 use Rattle.sarif_entries.specs.declared.entry.Entry.{Entry}
 use Rattle.sarif_policy.specs.declared.condition.GateCondition.{GateCondition}
 

@@ -5,15 +5,17 @@ ghost use Rattle.sarif_conditions.specs.Internal.Deciding.{deciding_of};
 ghost use Rattle.sarif_conditions.specs.Judged.{Judged, judged_of};
 ghost use Rattle.sarif_policy.specs.declared.condition.GateCondition.{GateCondition as Condition};
 
-use crate::checking::{count_unused, only_of, outcomes_of};
+use crate::checking::outcomes_of;
 use crate::deciding::Deciding;
 use crate::facts::PolicyFacts;
 use crate::judged::JudgedResult;
 use crate::standing::{count_hits, count_reported, count_unchecked, impacts_of, known_of};
+use crate::trying::try_condition;
 use sarif_counts::Impact;
 use sarif_model::Sequence;
 use sarif_policy::{GateCondition, GatePolicy};
 use std::alloc::{AllocError, Global};
+use std::hash::BuildHasher;
 
 /// What the conditions of a policy decide about the results of a merge.
 #[derive(Debug, Drop)]
@@ -27,8 +29,9 @@ pub struct Decided {
 }
 
 /// Adds what a condition decides.
-fn add_condition(
+fn add_condition<S: BuildHasher + Copy>(
     alloc: Global,
+    hasher: S,
     all: &mut Deciding,
     condition: &GateCondition,
     results: &[JudgedResult],
@@ -39,16 +42,22 @@ fn add_condition(
         → all.old ≡ deciding_of before (map judged_of results.now)
         → all.new ≡ deciding_of (before ++ condition.now ∷ []) (map judged_of results.now)) }
 {
-    let outcomes = outcomes_of(alloc, condition, results)?;
-    let only = count_unused(only_of(condition), results);
-    let except = count_unused(condition.except.as_slice(), results);
-    all.add(alloc, condition, &outcomes, only, except)?;
+    let tried = try_condition(alloc, hasher, condition, results)?;
+    let outcomes = outcomes_of(alloc, condition, results, &tried)?;
+    all.add(
+        alloc,
+        condition,
+        &outcomes,
+        tried.only.unused,
+        tried.except.unused,
+    )?;
     Ok(())
 }
 
 /// Returns what these conditions decide about the results.
-fn decide_each(
+fn decide_each<S: BuildHasher + Copy>(
     alloc: Global,
+    hasher: S,
     conditions: &[GateCondition],
     results: &[JudgedResult],
 ) -> Result<Deciding, AllocError>
@@ -57,7 +66,7 @@ fn decide_each(
 {
     let mut all = Deciding::before(alloc, results)?;
     for condition in conditions {
-        add_condition(alloc, &mut all, condition, results)?;
+        add_condition(alloc, hasher, &mut all, condition, results)?;
     }
     Ok(all)
 }
@@ -93,9 +102,11 @@ fn said_of(alloc: Global, all: Deciding) -> Result<Decided, AllocError>
 }
 
 /// Returns what the conditions of the policy decide about these results, and what the gate says about them. The results are
-/// all of a merge, and fewer than 2^32. Returns `AllocError` if memory runs out.
-pub fn decide(
+/// all of a merge, and fewer than 2^32. Tables of filters hash with `hasher`, on which nothing depends. Returns `AllocError` if
+/// memory runs out.
+pub fn decide<S: BuildHasher + Copy>(
     alloc: Global,
+    hasher: S,
     policy: &GatePolicy,
     results: &[JudgedResult],
 ) -> Result<Decided, AllocError>
@@ -103,7 +114,7 @@ pub fn decide(
     ensures { IfOk result
         (λ d. d ≡ decided_of policy.now.conditions (map judged_of results.now)) }
 {
-    let all = decide_each(alloc, policy.conditions.as_slice(), results)?;
+    let all = decide_each(alloc, hasher, policy.conditions.as_slice(), results)?;
     let decided = said_of(alloc, all)?;
     Ok(decided)
 }

@@ -1,16 +1,17 @@
 //! Laws of what the conditions of a policy decide, each the contract of a function that does nothing.
-ghost use Rattle.std.specs.Prelude.{◌≡◌, ◌↔◌, IsPermutation, ◌≤◌, ◌<◌, ◌+◌, ◌∷◌, ◌++◌, [], ℕ, IsTrue, List, None, Option, length, not, ◌&&◌};
+ghost use Rattle.std.specs.Prelude.{◌≡◌, ◌↔◌, IsPermutation, ◌≤◌, ◌<◌, ◌+◌, ◌∷◌, ◌++◌, [], ℕ, Bool, IsTrue, List, None, Option, length, not, ◌&&◌};
 ghost use Rattle.std.specs.List.{Contains, count_by};
 ghost use Rattle.sarif_change.specs.declared.spots.Scope.{Scope};
-ghost use Rattle.sarif_counts.specs.declared.gate_verdict.Verdict.TheVariants.{Fail};
+ghost use Rattle.sarif_counts.specs.declared.gate_verdict.Verdict.TheVariants.{Fail, Pass};
 ghost use Rattle.sarif_entries.specs.declared.entry.Entry.{Entry};
 ghost use Rattle.sarif_options.specs.Policy.{are_hits};
 ghost use Rattle.sarif_options.specs.declared.policy.Policy.{Policy};
 ghost use Rattle.sarif_policy.specs.declared.condition.GateCondition.{GateCondition};
 ghost use Rattle.sarif_scope.specs.Counted.{verdict_on};
+ghost use Rattle.sarif_conditions.specs.Accepting.{suppressed_if};
 ghost use Rattle.sarif_conditions.specs.Decided as said;
 ghost use Rattle.sarif_conditions.specs.Facts.{facts_of, verdict_told};
-ghost use Rattle.sarif_conditions.specs.Options.{condition_of_options, is_hit_by_options};
+ghost use Rattle.sarif_conditions.specs.Options.{condition_of_options, is_hit_by_options, is_reported_by_options};
 ghost use Rattle.sarif_conditions.specs.Split.{with_only, with_except};
 ghost use Rattle.sarif_conditions.specs.Judged.{Judged};
 
@@ -56,14 +57,29 @@ pub fn a_limit_grows_by_absent_results_at_most()
         ≤ c.max + count_by (λ (r : Judged). said.is_absent r.state) rs }
 {}
 
-/// One condition with the level, the states and the limit of the options, and a scope if there is a diff, has the hits and
-/// the verdict of the options.
+/// One condition with the level, the states and the limit of the options, and a scope if there is a diff, has the hits, the
+/// reported results and the verdict of the options.
 pub fn one_condition_is_the_options()
     ensures hits { (name : List ℕ) (policy : Policy) (diff : Option Scope) (r : Judged)
         → said.is_hit (condition_of_options name policy diff ∷ []) r
         ≡ is_hit_by_options policy diff r }
+    ensures reported { (name : List ℕ) (policy : Policy) (diff : Option Scope) (r : Judged)
+        → said.is_reported (condition_of_options name policy diff ∷ []) r
+        ≡ is_reported_by_options policy diff r }
     ensures verdict { (name : List ℕ) (policy : Policy) (diff : Option Scope)
         (rs : List Judged)
         → said.verdict_of (condition_of_options name policy diff ∷ []) rs
         ≡ verdict_on (count_by (is_hit_by_options policy diff) rs) policy }
+{}
+
+/// Accepting takes just the accepted results from the hits, and from those that would be hits inside the change: the hits
+/// afterwards are those of before that no added entry makes suppressed. If none is left, the verdict is pass, whatever the
+/// limits.
+pub fn accepting_leaves_the_other_hits()
+    ensures hits { (cs : List GateCondition) (accepted : Bool) (r : Judged)
+        → said.is_hit cs (suppressed_if accepted r) ≡ (said.is_hit cs r && not accepted) }
+    ensures known { (cs : List GateCondition) (accepted : Bool) (r : Judged)
+        → said.is_known cs (suppressed_if accepted r) ≡ (said.is_known cs r && not accepted) }
+    ensures pass { (cs : List GateCondition) (rs : List Judged)
+        → count_by (said.is_hit cs) rs ≡ 0 → said.verdict_of cs rs ≡ Pass }
 {}

@@ -54,6 +54,39 @@ fn filters_choose_what_a_condition_checks(rt: HostRuntime) -> Result<(), Fail> {
     Ok(())
 }
 
+/// Eight filters that match none of these errors.
+const OTHERS: &str = concat!(
+    r#"{"ruleId":"S1"},{"uri":"S2"},{"message":"S3"},{"uriPrefix":"S4"},"#,
+    r#"{"fingerprints":{"f":"S5"}},{"tool":"S6"},{"partialFingerprints":{"f":"S7"}},"#,
+    r#"{"guid":"0f14d0ab-9605-4a62-a9e4-5ed26688389b"}"#
+);
+
+/// Lists of filters, and of the errors and an absent one the hits of a condition with that `only`, those of one with that
+/// `except`, and how many of the filters are unused.
+const FILED: [(&str, u32, u32, u32); 4] = [
+    (r#"{"ruleId":"R1"}"#, 1, 2, 0),
+    (r#"{"ruleId":"R1"},{"message":"R2"}"#, 2, 1, 0),
+    (r#"{"ruleId":"R1","message":"R2"},{"tool":"lint"}"#, 3, 0, 1),
+    (r#"{"ruleId":"R4"},{"ruleId":"R3"}"#, 1, 2, 1),
+];
+
+#[test]
+fn many_filters_choose_what_few_would(rt: HostRuntime) -> Result<(), Fail> {
+    let alloc = rt.alloc();
+    let [one, two, three] = three_errors();
+    let results = [one, two, three, gone_error("R4")];
+    for (filters, only, except, unused) in FILED {
+        for (name, hits) in [("only", only), ("except", except)] {
+            let list = format!(in alloc; "[{filters},{OTHERS}]")?;
+            let condition = format!(in alloc; "{{\"name\":\"c\",\"{name}\":{list}}}")?;
+            let decided = decided_of(alloc, condition.as_str(), &results)?;
+            assert_eq!(rt; decided.facts.hits, hits);
+            assert_eq!(rt; decided.facts.unused_filters, unused + 8);
+        }
+    }
+    Ok(())
+}
+
 #[test]
 fn filters_of_all_conditions_are_counted(rt: HostRuntime) -> Result<(), Fail> {
     let conditions = r#"{"name":"a","only":[{"ruleId":"R1"},{"ruleId":"R4"}]},

@@ -4,6 +4,7 @@ use sarif_counts::Counts;
 use sarif_model::{Level, Record, State, copy_if_there};
 use sarif_policy::{Decimal, Rating, read_policy};
 use std::alloc::{AllocError, Global};
+use std::hash::{BuildHasherDefault, FoldHasher};
 use std::test::Fail;
 use test_suppress::result_at;
 
@@ -120,7 +121,8 @@ fn decided_by(alloc: Global, file: &str, results: &[JudgedResult]) -> Result<Dec
     if 1000 < results.len() {
         return Err(Fail::new("too many results"));
     }
-    let decided = decide(alloc, &policy, results)?;
+    let hasher = BuildHasherDefault::<FoldHasher>::new();
+    let decided = decide(alloc, hasher, &policy, results)?;
     Ok(decided)
 }
 

@@ -59,6 +59,6 @@ pub fn decide_merge<R: Threads + Sync>(
     let current = look_at_current(rt, alloc, merge, conditions, deciding.threads)?;
     let absent = look_at_absent(rt, alloc, merge, conditions, deciding)?;
     let results = judge_both(alloc, merge, &current, &absent)?;
-    let decided = decide(alloc, policy, &results)?;
+    let decided = decide(alloc, deciding.seed, policy, &results)?;
     Ok(decided)
 }

@@ -46,7 +46,8 @@ pub(crate) fn push_number(
     number: usize,
 ) -> Result<(), AllocError>
     ensures { OnOk result
-        (string_bytes lines.new ≡ string_bytes lines.old ++ said.line_of name.now (decimal number)) }
+        (string_bytes lines.new
+        ≡ string_bytes lines.old ++ said.line_of name.now (decimal number)) }
 {
     let text = format!(in alloc; "{number}")?;
     push_line(alloc, lines, name, text.as_str())

@@ -10,7 +10,7 @@ use Rattle.sarif_model.specs.declared.place.Place.{Place}
 use Rattle.sarif_model.specs.declared.record.Record.{Record}
 use Rattle.sarif_model.specs.declared.region.Region.{Region}
 use Rattle.sarif_model.specs.WhiteSpace.{is_white_space}
-use Rattle.sarif_members.specs.Regions.{context_snippet, if_position, member_in, own_region, physical_location, position_in, region_of, region_within, snippet_in, snippet_of, unless_blank}
+use Rattle.sarif_members.specs.Regions.{context_snippet, if_position, member_in, own_region, region_of, region_within, snippet_in, snippet_of, unless_blank}
 use Rattle.sarif_runs.specs.Record.{if_placed}
 use Rattle.sarif_runs.specs.declared.run_options.RecordOptions.{RecordOptions}
 use Rattle.sarif_known.specs.KnownResult.{known_result, members_from, number_if, object_from, physical_rows, region_for, region_rows, result_rows, snippet_for, uri_rows}

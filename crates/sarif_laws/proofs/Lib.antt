@@ -36,6 +36,7 @@ pub mod Ranked
 pub mod Read
 pub mod Remembered
 pub mod Reread
+pub mod RuledMerge
 pub mod RunsWithout
 pub mod SameBaseline
 pub mod SameLogs

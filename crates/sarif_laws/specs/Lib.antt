@@ -2,6 +2,7 @@ pub mod Accepting
 pub mod Adopting
 pub mod Changed
 pub mod Choosing
+pub mod Decided
 pub mod Hits
 pub mod Ignored
 pub mod KnownAgain

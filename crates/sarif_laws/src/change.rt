@@ -59,7 +59,8 @@ pub fn without_a_diff_all_hits_count()
     ensures needed { (inputs : Inputs) → faults_of inputs ≡ []
         → faults_of (without_diff inputs) ≡ faults_of_policy (policy_read false inputs.policy) }
     ensures log { (inputs : Inputs) (policy : Policy) → inputs.diff ≡ None
-        → inputs.policy ≡ None → log.merged_log inputs policy ≡ log_with (naming (log.copies_in_log inputs)
+        → inputs.policy ≡ None → log.merged_log inputs policy
+        ≡ log_with (naming (log.copies_in_log inputs)
         (gate_of (count_of (log.runs_counted inputs)) policy (log.without_of inputs)
         (log.unused_counted inputs))) (log.runs_in_log inputs) }
     ensures hits { (inputs : Inputs) (policy : Policy) → inputs.diff ≡ None

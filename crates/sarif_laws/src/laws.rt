@@ -113,7 +113,8 @@ pub fn accepting_with_a_change_leaves_the_others()
         → renewal_faults (merge_inside inputs policy marks) renewal ≡ []
         → renewal.accept ≡ true
         → IsUntil inputs.today renewal.until
-        → json_of (without_mark text) ≡ Some (rules_after (merge_inside inputs policy marks) renewal)
+        → json_of (without_mark text)
+        ≡ Some (rules_after (merge_inside inputs policy marks) renewal)
         → LeavesInside inputs change policy marks renewal text }
 {}
 

@@ -1,9 +1,10 @@
 //! Laws of whole merges: what accepting results, pruning the suppression file and adopting results change in the next
-//! merge, and what a diff changes.
+//! merge, what a diff changes, and what reports show with a policy.
 #![tactic(auto)]
 
 mod change;
 mod laws;
+mod policy;
 
 pub use change::{
     a_diff_changes_no_known_log, a_diff_narrows_the_hits, no_hit_in_the_change_passes,
@@ -17,3 +18,4 @@ pub use laws::{
     snippets_that_no_entry_compares_change_nothing, the_gate_counts_the_hits,
     the_known_log_is_read_again, the_new_file_is_read_as_itself,
 };
+pub use policy::{findings_of_a_merge_follow_its_policy, junit_fails_if_the_policy_does};

@@ -3,7 +3,7 @@ use Rattle.std.proofs.Common.{◌≡◌, ◌≢◌, ℕ, ◌<◌, Bool, true, fa
 use Rattle.std.specs.Prelude.{option_and_then, slice_index_or}
 use Rattle.std.proofs.lemmas.List.{get_or-set_same, get_or-set_other}
 use Rattle.json.specs.Token.{Token}
-use Rattle.serde_json.specs.Data.{Data, null, boolean, number, string, array, object, Members, no_members, put}
+use Rattle.serde_json.specs.Data.{Data, null, boolean, number, string, array, object, Members, put}
 use Rattle.serde_json.specs.Find.{get, get_member, as_object}
 use Rattle.serde_json.proofs.Views.{get_member-put_other}
 use Rattle.json_parts.specs.Indexed.{data_of}
@@ -11,7 +11,7 @@ use Rattle.sarif_model.specs.Members.{unless_null}
 use Rattle.sarif_read.specs.Internal.Listed.{value_at}
 use Rattle.sarif_read.proofs.NodeValues.{kept_none}
 use Rattle.sarif_read.proofs.PickedMembers.{data_ordered}
-use Rattle.sarif_members.specs.Internal.Marked.{mark_of, AreMarked}
+use Rattle.sarif_members.specs.Internal.Marked.{mark_of}
 
 -- none of these members has a name without a mark
 abbrev pub AreAllMarked : List Bool → Members → Type 0

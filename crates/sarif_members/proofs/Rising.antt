@@ -4,13 +4,11 @@ use Rattle.std.specs.Prelude.{slice_get}
 use Rattle.std.specs.Ordering.{nat_cmp, match_ordering, ordering_reverse}
 use Rattle.std.specs.Cmp.Lexicographic.{slice_cmp}
 use Rattle.std.proofs.lemmas.Cmp.{nat_list_cmp_total}
-use Rattle.serde_json.specs.Data.{Data, null, boolean, number, string, array, object, Members, no_members, member, put}
+use Rattle.serde_json.specs.Data.{Data, null, boolean, number, string, array, object, member, put}
 use Rattle.serde_json.specs.Find.{as_str, as_object}
 use Rattle.json_parts.specs.Internal.Ordered.{IsBelow, AreMembersOrdered}
 use Rattle.json_parts.specs.Stripping.{stripped, stripped_members}
-use Rattle.json_parts.proofs.Order.{ordered_put}
 use Rattle.json_parts.proofs.Readings.{not_found, Some_inj}
-use Rattle.sarif_model.specs.declared.fault.Fault.{Fault}
 use Rattle.sarif_model.specs.declared.fault.Fault.TheVariants.{BadFingerprint}
 use Rattle.sarif_model.specs.Members.{◌>>=◌, result_map, of_kind}
 use Rattle.sarif_members.specs.Fingerprints.{Pair, with_pair, pairs_among, pairs_of}

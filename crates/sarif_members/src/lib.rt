@@ -2,7 +2,7 @@
 #![tactic(auto)]
 
 mod laws;
-mod node_members;
+pub mod node_members;
 mod own_members;
 mod parts;
 mod passing;

@@ -33,7 +33,7 @@ pub(crate) fn kept_member<'t, 'a>(node: &Node<'t, 'a>, name: &str) -> Option<Nod
 
 /// The text, where this is one.
 #[tactic(auto, using(sarif_read::proofs::NodeValues::node_steps))]
-pub(crate) fn text_of<'a>(node: &Node<'_, 'a>) -> Option<&'a str>
+pub fn text_of<'a>(node: &Node<'_, 'a>) -> Option<&'a str>
     ensures { option_map (λ s. s.now) result ≡ as_str (value_at node.now) }
 {
     node.as_str()
@@ -41,7 +41,7 @@ pub(crate) fn text_of<'a>(node: &Node<'_, 'a>) -> Option<&'a str>
 
 /// Whether this is an object.
 #[tactic(auto, using(sarif_read::proofs::NodeValues::node_steps))]
-fn is_object(node: &Node<'_, '_>) -> bool
+pub fn is_object(node: &Node<'_, '_>) -> bool
     ensures { result ≡ said.is_object (value_at node.now) }
 {
     node.is_object()
@@ -49,7 +49,7 @@ fn is_object(node: &Node<'_, '_>) -> bool
 
 /// The member `name`, where stripping leaves it and it is not null. A value that is not an object has no members.
 #[tactic(auto, using(crate::proofs::NodeMembers::null_steps))]
-pub(crate) fn member_at<'t, 'a>(node: &Node<'t, 'a>, name: &str) -> Option<Node<'t, 'a>>
+pub fn member_at<'t, 'a>(node: &Node<'t, 'a>, name: &str) -> Option<Node<'t, 'a>>
     ensures { option_map value_at result ≡ said.member_at name.now (value_at node.now) }
 {
     match kept_member(node, name) {
@@ -161,7 +161,7 @@ fn index_at(node: &Node<'_, '_>, name: &str, wrong: Fault) -> Result<Option<u32>
 
 /// The integer, where this is one from 0 to 2^64 - 1.
 #[tactic(auto, using(sarif_read::proofs::NodeValues::node_steps))]
-pub(crate) fn unsigned_of(node: &Node<'_, '_>) -> Option<u64>
+pub fn unsigned_of(node: &Node<'_, '_>) -> Option<u64>
     ensures { result ≡ option_and_then as_u64 (as_number (value_at node.now)) }
 {
     node.as_u64()
@@ -184,10 +184,7 @@ pub(crate) fn text_if_there<'a>(node: &Node<'_, 'a>, name: &str) -> Option<&'a s
 
 /// The member `name` of an object that may be absent itself; `None` where the object or the member is absent, or the
 /// member is null.
-pub(crate) fn member_within<'t, 'a>(
-    found: &Option<Node<'t, 'a>>,
-    name: &str,
-) -> Option<Node<'t, 'a>>
+pub fn member_within<'t, 'a>(found: &Option<Node<'t, 'a>>, name: &str) -> Option<Node<'t, 'a>>
     ensures { option_map value_at result
         ≡ option_and_then (said.member_at name.now) (option_map value_at found.now) }
 {
@@ -255,6 +252,26 @@ fn elements_of<'t, 'a>(
         ≡ as_array (value_at node.now)) }
 {
     node.items(alloc)
+}
+
+/// The elements of the array `name`; none if the member is missing or null, or is not an array. Returns `AllocError` if
+/// memory for their list runs out.
+#[tactic(auto, using(crate::proofs::NodeMembers::element_steps))]
+pub fn elements_if_there<'t, 'a>(
+    alloc: Global,
+    node: &Node<'t, 'a>,
+    name: &str,
+) -> Result<Vec<Node<'t, 'a>>, AllocError>
+    ensures { IfOk result (λ nodes. map value_at nodes.items
+        ≡ elements_or_none (option_and_then as_array (said.member_at name.now (value_at node.now)))) }
+{
+    let Some(member) = member_at(node, name) else {
+        return Ok(Vec::new(alloc));
+    };
+    match elements_of(alloc, &member)? {
+        Some(nodes) => Ok(nodes),
+        None => Ok(Vec::new(alloc)),
+    }
 }
 
 /// The elements of the array that a member is; none if it is missing. Returns `wrong` if it is not an array.

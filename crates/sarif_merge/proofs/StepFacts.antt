@@ -49,7 +49,6 @@ use Rattle.sarif_log.specs.Internal.Prepared.{IsPreparedAs}
 use Rattle.sarif_log.specs.declared.merged.Merged.{Merged}
 use Rattle.sarif_log.specs.declared.prepared.Prepared.{Prepared}
 use Rattle.sarif_findings.specs.declared.finding.Finding.{Finding}
-use Rattle.sarif_findings.specs.declared.reporting.Reporting.{Reporting}
 use Rattle.sarif_upkeep.specs.Internal.IsMatched.{IsFileOf}
 use Rattle.sarif_upkeep.specs.Life.{life_faults}
 use Rattle.sarif_merge.specs.Life.{IsLifeOf, IsRefusal}

@@ -3,6 +3,7 @@
 
 mod asked;
 mod marking;
+mod places;
 mod scoped;
 
 pub use marking::{mark_outside, mark_outside_in};

@@ -11,6 +11,7 @@ ghost use Rattle.sarif_outside.specs.Marks as said;
 ghost use Rattle.sarif_outside.specs.Internal.Asked.{AreLookedFor, looked_as, mark_by, placed_looked, scoped};
 
 use crate::asked::{AskedResult, LookedRun};
+use crate::places::places_of;
 use crate::scoped::ScopedChange;
 use sarif_runs::{OpenedRun, Spot, list_spots};
 use sarif_scope::{GatedChange, artifacts_in};
@@ -120,8 +121,8 @@ fn is_outside_in(alloc: Global, run: &LookedRun<'_, '_, '_>, seq: u32) -> Result
         ≡ inside.is_outside_of (scoped run.now.change) (placed_looked run.now).run
         (result_at (placed_looked run.now).run seq)) }
 {
-    let found = run.opened.result(alloc, seq)?;
-    let outside = run.known.is_outside(alloc, &found)?;
+    let places = places_of(alloc, run.opened.node(seq))?;
+    let outside = run.known.is_outside(alloc, &places)?;
     Ok(outside)
 }
 

@@ -3,4 +3,8 @@
 #![tactic(auto)]
 
 #[cfg(test)]
+mod marked;
+#[cfg(test)]
 mod marking;
+#[cfg(test)]
+mod reading;

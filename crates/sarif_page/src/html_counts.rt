@@ -66,7 +66,8 @@ fn level_cells(
     state: State,
     row: &CountRow,
 ) -> Result<String, AllocError>
-    ensures { IfOk result (λ s. string_bytes s ≡ said.level_cells (option_map (λ policy. policy.now) marks.entry) state row.now) }
+    ensures { IfOk result (λ s. string_bytes s
+        ≡ said.level_cells (option_map (λ policy. policy.now) marks.entry) state row.now) }
 {
     let error = number_cell(alloc, is_on(marks, state, Level::Error), row.error)?;
     let warning = number_cell(alloc, is_on(marks, state, Level::Warning), row.warning)?;
@@ -82,7 +83,8 @@ fn row_of(
     state: State,
     row: &CountRow,
 ) -> Result<String, AllocError>
-    ensures { IfOk result (λ s. string_bytes s ≡ said.row_of (option_map (λ policy. policy.now) marks.entry) state row.now) }
+    ensures { IfOk result (λ s. string_bytes s
+        ≡ said.row_of (option_map (λ policy. policy.now) marks.entry) state row.now) }
 {
     let name = state.name();
     let cells = level_cells(alloc, marks, state, row)?;
@@ -100,7 +102,8 @@ fn push_count_row(
     state: State,
 ) -> Result<(), AllocError>
     ensures { OnOk result (string_bytes text.new
-        ≡ string_bytes text.old ++ said.count_row (option_map (λ policy. policy.now) marks.entry) state
+        ≡ string_bytes text.old
+        ++ said.count_row (option_map (λ policy. policy.now) marks.entry) state
         (count_at counts.now state)) }
 {
     let row = row_of(alloc, marks, state, &row_numbers(counts, state))?;

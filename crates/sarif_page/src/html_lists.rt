@@ -135,7 +135,8 @@ fn push_more_groups(
 ) -> Result<(), AllocError>
     requires { number + length groups.now < 2 ^ 64 }
     ensures { OnOk result (string_bytes text.new ≡ string_bytes text.old
-        ++ said.more_groups (option_map (λ link. link.now) link.entry) number (groups_in groups.now)) }
+        ++ said.more_groups (option_map (λ link. link.now) link.entry) number
+        (groups_in groups.now)) }
 {
     if groups.is_empty() {
         return Ok(());

@@ -67,7 +67,7 @@ standings_long : (v : MatchingVersion) (bs : List Record) (ps : List (Option ℕ
 standings_long v bs ps n [] = refl
 standings_long v bs ps n (c ∷ cs) = ap suc (standings_long v bs ps (n + 1) cs)
 
--- each result has a standing
+-- what matching says is known for each result
 pub standings_all : (v : MatchingVersion) (c : Half) (b : Baselines) (p : Paired) → IsPaired v c b p → length p.standings.items ≡ length p.states.items
 standings_all v c b p q =
     let rs = map unadmitted c.records.items in

@@ -3,7 +3,6 @@ use Rattle.std.proofs.Common.{◌≡◌, ◌⊎◌, inl, inr, ◌++◌, ℕ, Lis
 use Rattle.std.proofs.lemmas.List.{append-nil, length-map, map-append}
 use Rattle.std.proofs.lemmas.List.Concat.{flat_map-append}
 use Rattle.std.specs.Prelude.{flat_map, option_map}
-use Rattle.serde_json.specs.Data.{Data}
 use Rattle.sarif_choice.specs.Choice.{is_chosen, unfit_of}
 use Rattle.sarif_choice.specs.declared.choice.Choice.{Choice}
 use Rattle.sarif_choice.specs.declared.choice.Unfit.{Unfit}

@@ -1,5 +1,5 @@
 -- The marks that are spread over the hits of conditions are those of the merged log.
-use Rattle.std.proofs.Common.{◌≡◌, ◌≤◌, ◌+◌, ◌++◌, ℕ, zero, suc, Bool, true, false, not, ◌&&◌, List, [], ◌∷◌, Option, Some, None, map, take, drop, length, refl, sym, ap, subst, ◌∙◌, arith}
+use Rattle.std.proofs.Common.{◌≡◌, ◌+◌, ◌++◌, ℕ, zero, suc, Bool, true, false, not, ◌&&◌, List, [], ◌∷◌, Option, Some, None, map, take, drop, length, refl, sym, ap, subst, ◌∙◌, arith}
 use Rattle.std.proofs.lemmas.List.{length-map, length-take-le, map-append}
 use Rattle.std.specs.Prelude.{option_map, IfSome}
 use Rattle.std.specs.Option.{option_map_or}

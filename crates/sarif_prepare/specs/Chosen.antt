@@ -18,7 +18,6 @@ use Rattle.sarif_findings.specs.Reported.{finding_if}
 use Rattle.sarif_findings.specs.declared.reporting.Reporting.{Reporting}
 use Rattle.sarif_findings.specs.declared.reporting.Show.TheVariants.{Hits}
 use Rattle.sarif_log.specs.LogBy.{current_runs, runs_by}
-use Rattle.sarif_log.specs.Told.{told_by}
 use Rattle.sarif_known.specs.declared.standing.Standing.{Standing}
 use Rattle.sarif_model.specs.declared.merge_fault.At.{At}
 use Rattle.sarif_model.specs.declared.merge_fault.At.TheVariants.{Place, Rule}

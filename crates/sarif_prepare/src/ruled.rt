@@ -57,7 +57,7 @@ fn count_hits(impacts: &[Option<Impact>]) -> usize
     impacts.iter().filter(|impact| is_hit_by(**impact)).count()
 }
 
-/// Returns the standing with the answer of the conditions: whether the result is a hit, or would be one inside the change.
+/// Returns the same with what the conditions decide: whether the result is a hit, or would be one inside the change.
 fn with_hit(standing: Standing, hit: bool) -> Standing
     ensures { result ≡ record standing { would_hit = Some hit } }
 {
@@ -68,7 +68,7 @@ fn with_hit(standing: Standing, hit: bool) -> Standing
     }
 }
 
-/// Returns the standings of results, with whether each is a hit, or would be one inside the change.
+/// Does the same for each of these results.
 fn list_standings(
     alloc: Global,
     standings: &[Standing],

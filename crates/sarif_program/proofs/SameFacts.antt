@@ -1,7 +1,6 @@
 -- The facts of a merge, as its outputs are made from them, and the lines on what is for later merges.
 use Rattle.std.proofs.Common.{◌≡◌, ◌++◌, ◌∙◌, ℕ, [], Option, Some, None, false, ap, length, refl}
 use Rattle.std.specs.Prelude.{option_map}
-use Rattle.sarif_counts.specs.declared.life.Life.{Life}
 use Rattle.sarif_counts.specs.Counts.{count_at}
 use Rattle.sarif_inputs.specs.Inputs.{Inputs, baseline_runs, input_runs}
 use Rattle.sarif_log.specs.declared.facts.Facts.{Facts as MergeFacts}

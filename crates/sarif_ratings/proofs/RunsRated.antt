@@ -4,22 +4,15 @@ use Rattle.serde_json.specs.View.{view}
 use Rattle.serde_json.specs.declared.value.Value.{Value}
 use Rattle.sarif_runs.specs.Internal.Opened.{placed_of}
 use Rattle.sarif_runs.specs.declared.opened.OpenedRun.{OpenedRun}
-use Rattle.std.proofs.Common.{map, ◌≡◌, ◌∙◌, ℕ, List, [], ◌∷◌, Option, Some, None, codes, option_map, refl, sym, ap}
+use Rattle.std.proofs.Common.{map, ◌≡◌, ◌∙◌, ℕ, List, [], ◌∷◌, Option, Some, None, codes, refl, sym, ap}
 use Rattle.std.specs.Prelude.{option_and_then}
-use Rattle.std.specs.Option.{option_or}
 use Rattle.serde_json.specs.Data.{Data}
 use Rattle.serde_json.specs.Find.{get}
-use Rattle.sarif_findings.specs.Located.{descriptor_at, own_id_at}
-use Rattle.sarif_findings.specs.Lookup.{component_by, descriptor_of, driver_of, element_at, elements_in, extension_index, own_rule_id, rule_by, rule_in, rule_index}
-use Rattle.sarif_model.specs.Internal.References.{IsRuleReference}
-use Rattle.sarif_model.specs.declared.references.RuleReference.{RuleReference}
+use Rattle.sarif_findings.specs.Lookup.{component_by, element_at, extension_index, rule_in}
 use Rattle.sarif_policy.specs.Rating.{rating_of}
-use Rattle.sarif_policy.specs.declared.rating.Rating.{Rating}
 use Rattle.sarif_read.proofs.Beside.{bare_get}
-use Rattle.sarif_read.proofs.PickedMembers.{picked_get}
 use Rattle.sarif_read.specs.Internal.Bare.{bare}
-use Rattle.sarif_read.specs.Internal.Picked.{picked}
-use Rattle.sarif_ratings.specs.Ratings.{own_rating, rating_in}
+use Rattle.sarif_ratings.specs.Ratings.{rating_in}
 
 component_alike : (a b : Data) (n : Option ℕ) → get (codes "tool") a ≡ get (codes "tool") b
     → component_by a n ≡ component_by b n

@@ -1,5 +1,5 @@
 -- The security severity of the results of runs (SARIF 2.1.0, "property bags").
-use Rattle.std.specs.Prelude.{List, Option, Some, None, map}
+use Rattle.std.specs.Prelude.{List, Option, Some, None}
 use Rattle.serde_json.specs.Data.{Data}
 use Rattle.sarif_findings.specs.Lookup.{descriptor_of}
 use Rattle.sarif_model.specs.Run.{result_at}

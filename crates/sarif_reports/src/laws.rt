@@ -73,10 +73,12 @@ pub fn markdown_rows_have_their_tags()
 /// So without a policy there is a row if anything is reported.
 pub fn markdown_tables_count_all_results()
     ensures results { (link : Option (List ℕ)) (room : ℕ) (findings : List Finding) →
-        length (in_table link room findings) + length (left_out link room findings) ≡ length findings }
+        length (in_table link room findings) + length (left_out link room findings)
+        ≡ length findings }
     ensures hits { (link : Option (List ℕ)) (room : ℕ) (change : Option GatedChange)
         (reporting : Reporting) (log : Data) →
-        count_by (λ row. is_hit row.1.impact) (in_table link room (reported_by change reporting log))
+        count_by (λ row. is_hit row.1.impact)
+        (in_table link room (reported_by change reporting log))
         + count_by (λ f. is_hit f.impact) (left_out link room (reported_by change reporting log))
         ≡ hits_by change reporting.policy (runs_of log) }
     ensures row { (link : Option (List ℕ)) (change : Option GatedChange) (reporting : Reporting)

@@ -429,9 +429,11 @@ fn push_rows(
 ) -> Result<usize, AllocError>
     ensures rows { OnOk result (string_bytes text.new ≡ string_bytes text.old
         ++ flat_map (said.row_text (option_map (λ link. link.now) link.entry))
-        (said.rows_of (option_map (λ link. link.now) link.entry) room (map (λ f. f.now) listed.now))) }
+        (said.rows_of (option_map (λ link. link.now) link.entry) room
+        (map (λ f. f.now) listed.now))) }
     ensures count { IfOk result (λ n. n ≡ length
-        (said.rows_of (option_map (λ link. link.now) link.entry) room (map (λ f. f.now) listed.now))) }
+        (said.rows_of (option_map (λ link. link.now) link.entry) room
+        (map (λ f. f.now) listed.now))) }
     ensures few { IfOk result (λ n. n ≤ length listed.now) }
 {
     push_fitting(alloc, text, link, room, first_rows(listed))

@@ -1,10 +1,10 @@
-//! Reading the change of a diff, and comparing results of a run with it.
+//! Reading the change of a diff, and the artifacts of a run.
 use sarif_change::Scope;
 use sarif_diff::DiffFault;
 use sarif_model::{Refusal, Sequence};
-use sarif_scope::{GatedChange, artifacts_in, is_outside_of, read_change};
+use sarif_scope::{GatedChange, artifacts_in, read_change};
 use serde_json::Value;
-use std::alloc::{AllocGlobal, Global};
+use std::alloc::AllocGlobal;
 use std::hash::RandomState;
 use std::random::RandomSource;
 use std::test::Fail;
@@ -32,24 +32,6 @@ fn read<R: AllocGlobal + RandomSource>(
     }
 }
 
-/// Returns whether a result with one location of this text is outside of a change, in the run.
-fn is_outside_at(alloc: Global, change: &GatedChange, location: &str) -> Result<bool, Fail> {
-    let run = Value::from_str(alloc, RUN)?;
-    let artifacts = artifacts_in(alloc, &run)?;
-    let text = format!(in alloc; "{{\"locations\":[{location}]}}")?;
-    let found = Value::from_str(alloc, text.as_str())?;
-    let outside = is_outside_of(alloc, change, artifacts.as_slice(), &found)?;
-    Ok(outside)
-}
-
-/// The text of a location with these members of its `artifactLocation`, from this line on.
-fn location(alloc: Global, artifact: &str, line: u32) -> Result<String, Fail> {
-    let text = format!(in alloc;
-        "{{\"physicalLocation\":{{\"artifactLocation\":{{{artifact}}},\"region\":{{\"startLine\":{line}}}}}}}"
-    )?;
-    Ok(text)
-}
-
 #[test]
 fn a_file_of_two_commits_is_one_file(rt: HostRuntime) -> Result<(), Fail> {
     let one = read(&rt, DIFF, Scope::Lines)?;
@@ -72,46 +54,17 @@ fn an_empty_diff_is_an_error(rt: HostRuntime) -> Result<(), Fail> {
 }
 
 #[test]
-fn the_scope_decides_which_lines_are_inside(rt: HostRuntime) -> Result<(), Fail> {
-    let rows = [
-        (Scope::Lines, "\"uri\":\"a.c\"", 1, true),
-        (Scope::Lines, "\"uri\":\"a.c\"", 2, false),
-        (Scope::Lines, "\"uri\":\"a.c\"", 3, true),
-        (Scope::Lines, "\"uri\":\"b.c\"", 2, true),
-        (Scope::Files, "\"uri\":\"a.c\"", 1, false),
-        (Scope::Files, "\"uri\":\"a.c\"", 2, false),
-        (Scope::Files, "\"uri\":\"a.c\"", 3, false),
-        (Scope::Files, "\"uri\":\"b.c\"", 2, true),
-    ];
-    for (scope, uri, line, outside) in rows {
-        let change = read(&rt, DIFF, scope)?;
-        let place = location(rt.alloc(), uri, line)?;
-        assert_eq!(rt;
-            is_outside_at(rt.alloc(), &change, place.as_str())?,
-            outside
-        );
+fn artifacts_are_read_with_their_uris(rt: HostRuntime) -> Result<(), Fail> {
+    let run = Value::from_str(rt.alloc(), RUN)?;
+    let artifacts = artifacts_in(rt.alloc(), &run)?;
+    let mut told = String::new(rt.alloc());
+    for artifact in artifacts.as_slice() {
+        match &artifact.uri {
+            Some(uri) => told.push_str(uri.as_str())?,
+            None => told.push_str("none")?,
+        }
+        told.push_str("\n")?;
     }
-    Ok(())
-}
-
-#[test]
-fn places_by_index_are_those_of_artifacts(rt: HostRuntime) -> Result<(), Fail> {
-    let change = read(&rt, DIFF, Scope::Lines)?;
-    let rows = [
-        ("\"index\":0", 2, true),
-        ("\"index\":1", 3, true),
-        ("\"index\":1", 2, false),
-        ("\"index\":2", 3, false),
-        ("\"index\":3", 3, false),
-        ("\"index\":-1", 3, false),
-        ("\"index\":\"0\"", 3, false),
-    ];
-    for (artifact, line, outside) in rows {
-        let place = location(rt.alloc(), artifact, line)?;
-        assert_eq!(rt;
-            is_outside_at(rt.alloc(), &change, place.as_str())?,
-            outside
-        );
-    }
+    assert_eq!(rt; told.as_str(), "b.c\na.c\nnone\n");
     Ok(())
 }

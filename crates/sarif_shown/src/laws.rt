@@ -104,10 +104,12 @@ pub fn listed_results_are_sorted()
         of_standing impact level (listed findings) ≡ of_standing impact level findings }
     ensures hits { (change : Option GatedChange) (reporting : Reporting) (log : Data) →
         take (hits_by change reporting.policy (runs_of log))
-        (listed (reported_by change reporting log)) ≡ hits_among (reported_by change reporting log) }
+        (listed (reported_by change reporting log))
+        ≡ hits_among (reported_by change reporting log) }
     ensures others { (change : Option GatedChange) (reporting : Reporting) (log : Data) →
         drop (hits_by change reporting.policy (runs_of log))
-        (listed (reported_by change reporting log)) ≡ others_among (reported_by change reporting log) }
+        (listed (reported_by change reporting log))
+        ≡ others_among (reported_by change reporting log) }
     ensures length { (findings : List Finding) → length (listed findings) ≡ length findings }
 {}
 
@@ -166,7 +168,8 @@ pub fn github_lines_begin_with_commands()
         count_by (λ b. b == 10) (github_of (reported_by change reporting log))
         ≡ length (reported_by change reporting log) }
     ensures hits { (change : Option GatedChange) (reporting : Reporting) (log : Data) →
-        count_by (λ b. b == 10) (flat_map github_line (hits_among (reported_by change reporting log)))
+        count_by (λ b. b == 10)
+        (flat_map github_line (hits_among (reported_by change reporting log)))
         ≡ hits_by change reporting.policy (runs_of log) }
     ensures first { (change : Option GatedChange) (reporting : Reporting) (log : Data) →
         github_of (reported_by change reporting log)

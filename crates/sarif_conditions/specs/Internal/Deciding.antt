@@ -1,11 +1,11 @@
 -- What is decided condition by condition.
-use Rattle.std.specs.Prelude.{ℕ, ◌+◌, Bool, true, false, not, ◌&&◌, ◌||◌, List, [], ◌∷◌, ◌++◌, Option, Some, None, map, min, nat_lt, if◌then◌else◌}
-use Rattle.std.specs.List.{list_any, count_by}
+use Rattle.std.specs.Prelude.{ℕ, ◌+◌, Bool, false, not, ◌&&◌, ◌||◌, List, [], ◌∷◌, ◌++◌, Option, Some, None, map, min, nat_lt, if◌then◌else◌}
+use Rattle.std.specs.List.{count_by}
 use Rattle.sarif_counts.specs.declared.gate_verdict.Impact.{Impact}
 use Rattle.sarif_options.specs.Policy.{is_listed}
 use Rattle.sarif_policy.specs.Condition.{checks}
 use Rattle.sarif_policy.specs.declared.condition.GateCondition.{GateCondition}
-use Rattle.sarif_conditions.specs.Decided.{asks_if, impact_by, is_absent, is_hit, is_hit_of, is_inside, is_known, is_reported, is_reported_by, is_stopping, is_unchecked, unused_of, would_hit}
+use Rattle.sarif_conditions.specs.Decided.{asks_if, impact_by, is_absent, is_hit, is_inside, is_known, is_reported, is_stopping, is_unchecked, unused_of}
 use Rattle.sarif_conditions.specs.Facts.{facts_of_condition, most_unused, with_scope}
 use Rattle.sarif_conditions.specs.declared.deciding.Deciding.{Deciding}
 use Rattle.sarif_conditions.specs.declared.facts.ConditionFacts.{ConditionFacts}

@@ -1,4 +1,4 @@
-use Rattle.std.proofs.Common.{◌≡◌, ◌==◌, ◌∙◌, ◌∷◌, [], List, ℕ, length, map, string_bytes, true, false, true≢false, refl, sym, ap, subst, arith}
+use Rattle.std.proofs.Common.{◌≡◌, ◌==◌, ◌∙◌, ◌∷◌, [], List, ℕ, length, map, string_bytes, true, false, true≢false, sym, ap, subst, arith}
 use Rattle.std.specs.Prelude.{Err}
 use Rattle.sarif_request.specs.declared.terminal.TerminalFacts.{TerminalFacts}
 use Rattle.sarif_request.specs.declared.words.WordsFault.TheVariants.{OutOfMemory}

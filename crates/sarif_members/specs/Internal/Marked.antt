@@ -1,7 +1,7 @@
 -- Which lengths the names of a value's members have.
 use Rattle.std.specs.Prelude.{◌≡◌, ℕ, Bool, false, List, None, length, min, slice_index_or}
-use Rattle.serde_json.specs.Data.{Data, Members}
-use Rattle.serde_json.specs.Find.{get, get_member}
+use Rattle.serde_json.specs.Data.{Data}
+use Rattle.serde_json.specs.Find.{get}
 
 -- the number of the mark of a name: its length, but all lengths from 31 share one mark
 abbrev pub mark_of : List ℕ → ℕ

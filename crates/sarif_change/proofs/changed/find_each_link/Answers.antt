@@ -1,4 +1,4 @@
-use Rattle.std.proofs.Common.{rules, arith, ◌≡◌, ◌≤◌, ◌||◌, length}
+use Rattle.std.proofs.Common.{rules, arith, ◌≤◌, ◌||◌, length}
 use Rattle.std.proofs.lemmas.Grind.{common_steps}
 use Rattle.std.specs.List.{list_any}
 use Rattle.sarif_change.specs.Internal.Files.{any_changed}

@@ -1,4 +1,4 @@
-use Rattle.std.proofs.Common.{◌≡◌, ◌+◌, ◌++◌, ◌∷◌, [], length, map, take, ap, sym, ◌∙◌}
+use Rattle.std.proofs.Common.{◌≡◌, ◌+◌, ◌++◌, ◌∷◌, [], map, take, ap, sym, ◌∙◌}
 use Rattle.std.proofs.lemmas.List.{take_more, length-map}
 use Rattle.sarif_conditions.specs.Internal.Deciding.{deciding_of}
 use Rattle.sarif_conditions.specs.Judged.{judged_of}
@@ -6,13 +6,13 @@ use Rattle.sarif_conditions.proofs.DecidingMore.{standings_alike}
 use Rattle.sarif_conditions.proofs.decided.decide_each.Goals as goal
 
 pub add_condition-requires-clause-all : goal.add_condition-requires-clause-all
-add_condition-requires-clause-all c =
+add_condition-requires-clause-all g c =
     let rs = c.args.results.now in
     standings_alike (take c.loop-condition.condition-index c.args.conditions.now) (map judged_of rs) c.loop-condition.all c.loop-condition.invariant
     ∙ length-map rs judged_of
 
 pub loop-condition-preserved : goal.loop-condition-preserved
-loop-condition-preserved c =
+loop-condition-preserved g c =
     let cs = c.args.conditions.now in
     let i = c.loop-condition.condition-index in
     let one = c.condition-item.result in

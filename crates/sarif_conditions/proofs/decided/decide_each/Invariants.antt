@@ -5,4 +5,4 @@ use Rattle.sarif_conditions.proofs.decided.decide_each.Given as goal
 
 -- what the conditions so far decide
 abbrev pub invariant-loop-condition : goal.invariant-loop-condition
-invariant-loop-condition l = l.all ≡ deciding_of (take l.condition-index l.conditions) (map judged_of l.results)
+invariant-loop-condition g l = l.all ≡ deciding_of (take l.condition-index l.conditions) (map judged_of l.results)

@@ -1,4 +1,4 @@
-use Rattle.std.proofs.Common.{Some, inl, inr, length, sym, ap, ◌∙◌}
+use Rattle.std.proofs.Common.{Some, inl, inr, ap, ◌∙◌}
 use Rattle.std.proofs.lemmas.Result.{err_from_is_err_and}
 use Rattle.std.specs.Prelude.{option_map}
 use Rattle.sarif_prepare.specs.Chosen.{at_of}

@@ -1,4 +1,3 @@
-use Rattle.std.proofs.Common.{rules}
 use Rattle.sarif_ratings.proofs.RunsRated.{all_rated}
 use Rattle.sarif_ratings.proofs.rated_run.rate_runs.Goals as goal
 

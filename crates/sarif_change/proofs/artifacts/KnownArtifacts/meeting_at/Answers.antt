@@ -1,4 +1,4 @@
-use Rattle.std.proofs.Common.{rules, ◌≡◌, ◌∙◌, ◌≤◌, ◌<◌, None, List, length, get_or, subst, ap}
+use Rattle.std.proofs.Common.{rules, ◌≡◌, ◌∙◌, ◌≤◌, ◌<◌, None, List, length, get_or, subst}
 use Rattle.sarif_change.specs.declared.known.KnownPath.{KnownPath}
 use Rattle.sarif_change.proofs.KnownMore.{none_past, one_within}
 use Rattle.sarif_change.proofs.artifacts.KnownArtifacts.meeting_at.Goals as goal

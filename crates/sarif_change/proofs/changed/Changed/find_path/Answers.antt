@@ -1,4 +1,4 @@
-use Rattle.std.proofs.Common.{◌≡◌, ◌∙◌, ◌||◌, ap, sym}
+use Rattle.std.proofs.Common.{◌∙◌, ◌||◌, ap}
 use Rattle.std.specs.List.{list_any}
 use Rattle.sarif_change.specs.Parts.{pieces_of}
 use Rattle.sarif_change.specs.Internal.Files.{any_changed, found_at}

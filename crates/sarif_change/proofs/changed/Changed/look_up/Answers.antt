@@ -17,7 +17,7 @@ returns c = λ lines.
     let sought = paths_of roots uri in
     let same : map seen c.as_slice.result.now ≡ map keyed sought =
     ap (λ paths. map seen paths) c.as_slice.ensures.value
-    ∙ (c.in_ok-paths.ensures ∙ ap (λ u. map keyed (paths_of roots u)) c.as_bytes.ensures.value) in
+    ∙ (c.in_ok-paths.ensures ∙ ap (λ u. map keyed (paths_of roots u)) c.as_bytes-uri.ensures.value) in
     c.in_ok-find_paths.ensures lines sought (paths_clean roots uri) same
     ∙ (ap (λ (f : Found). any_changed lines f || list_any (is_found sections lines) sought) c.new-found.ensures.items
     ∙ all_found sections roots uri lines)

@@ -2,7 +2,7 @@ use Rattle.std.proofs.Common.{rules, ◌≡◌, ◌∙◌, sym, ap}
 use Rattle.serde_json.specs.View.{view}
 use Rattle.sarif_policy.specs.declared.rating.Rating.TheVariants.{Missing}
 use Rattle.sarif_findings.specs.Lookup.{descriptor_of}
-use Rattle.sarif_ratings.specs.Ratings.{own_or, own_rating, rule_rating}
+use Rattle.sarif_ratings.specs.Ratings.{own_or, rule_rating}
 use Rattle.sarif_findings.proofs.AtLocation.{descriptor_same}
 use Rattle.sarif_ratings.proofs.OwnOr.{own_first}
 use Rattle.sarif_ratings.proofs.rated_run.RatedRun.rating.Goals as goal

@@ -1,4 +1,4 @@
-use Rattle.std.proofs.Common.{rules, ◌≡◌, ◌∙◌, ap, map, List, Some, None, slice_get}
+use Rattle.std.proofs.Common.{rules, ◌≡◌, ◌∙◌, ap, List, Some, None, slice_get}
 use Rattle.serde_json.specs.View.{view}
 use Rattle.serde_json.specs.declared.value.Value.{Value}
 use Rattle.sarif_findings.proofs.RulesMore.{by_extension}

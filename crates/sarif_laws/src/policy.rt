@@ -1,0 +1,41 @@
+//! Laws of whole merges with a policy, each the contract of a function that does nothing.
+ghost use Rattle.std.specs.Prelude.{◌≡◌, ◌<◌, ◌^◌, false, List, Some, [], codes, length, nat_lt};
+ghost use Rattle.std.specs.List.{All};
+ghost use Rattle.serde_json.specs.Data.{Data};
+ghost use Rattle.sarif_conditions.specs.Facts.{facts_of as decided_facts, verdict_told};
+ghost use Rattle.sarif_findings.specs.Lookup.{elements_in};
+ghost use Rattle.sarif_findings.specs.declared.reporting.Reporting.{Reporting};
+ghost use Rattle.sarif_inputs.specs.Faults.{faults_of};
+ghost use Rattle.sarif_inputs.specs.Inputs.{Inputs};
+ghost use Rattle.sarif_merge.specs.MergedLog.{conditions_given, runs_counted, told_given};
+ghost use Rattle.sarif_policy.specs.declared.condition.GateCondition.{GateCondition};
+ghost use Rattle.sarif_prepare.specs.Told.{of_all};
+ghost use Rattle.sarif_reports.specs.JunitLaws.{occurrences};
+ghost use Rattle.sarif_reports.specs.PolicyReports.{IsFindingOf, document_of_policy};
+ghost use Rattle.sarif_shown.specs.PolicyLaws.{AreRuled, is_fail};
+ghost use Rattle.sarif_laws.specs.Decided.{results_given};
+
+/// The findings of a merge with a policy are those of the results that its conditions report and that are shown, in the
+/// order of the results, and each says what its result does to the gate. Each is the finding of a result of the log. So
+/// what the laws of reports say about such findings is true for each accepted merge.
+pub fn findings_of_a_merge_follow_its_policy()
+    ensures ruled { (inputs : Inputs) (cs : List GateCondition) (reporting : Reporting)
+        → faults_of inputs ≡ [] → inputs.checks.once ≡ false → conditions_given inputs ≡ Some cs
+        → AreRuled reporting.show cs (results_given inputs cs)
+        (told_given inputs (Some reporting)) }
+    ensures found { (inputs : Inputs) (cs : List GateCondition) (reporting : Reporting)
+        (log : Data) → conditions_given inputs ≡ Some cs
+        → elements_in (codes "runs") log ≡ runs_counted inputs
+        → All (IsFindingOf (of_all reporting) log) (told_given inputs (Some reporting)) }
+{}
+
+/// A report in JUnit XML of a merge with a policy fails exactly if the gate fails.
+pub fn junit_fails_if_the_policy_does()
+    ensures { (inputs : Inputs) (cs : List GateCondition) (reporting : Reporting) (log : Data)
+        → faults_of inputs ≡ [] → inputs.checks.once ≡ false → conditions_given inputs ≡ Some cs
+        → elements_in (codes "runs") log ≡ runs_counted inputs
+        → length (told_given inputs (Some reporting)) < 2 ^ 64
+        → nat_lt 0 (occurrences (codes "<failure ")
+        (document_of_policy (told_given inputs (Some reporting))))
+        ≡ is_fail (verdict_told (decided_facts cs (results_given inputs cs))) }
+{}

@@ -1,0 +1,2 @@
+pub mod ShownImpacts
+pub mod TellingAll
