@@ -17,11 +17,14 @@ use Rattle.sarif_inputs.specs.Inputs.{Inputs, baseline_runs, baseline_sources, i
 use Rattle.sarif_inputs.proofs.ReadFacts.{baseline_sides, log_sides}
 use Rattle.sarif_log.proofs.Sides.{records_present, results_long}
 use Rattle.sarif_log.specs.Told.{told_of}
+use Rattle.sarif_merge.specs.Life.{merge_counted}
 use Rattle.sarif_merge.specs.MergedLog.{change_given, conditions_given, file_given, runs_counted, told_given}
 use Rattle.sarif_merge.proofs.OwnResult.{faultless_runs}
 use Rattle.sarif_merge.proofs.ReadObjects.{objects_in}
 use Rattle.sarif_policy.specs.declared.condition.GateCondition.{GateCondition}
-use Rattle.sarif_prepare.specs.By.{counted_if, runs_counted_if}
+use Rattle.sarif_options.specs.declared.policy.Policy.{Policy}
+use Rattle.sarif_prepare.specs.By.{counted_if, merge_by, runs_counted_if}
+use Rattle.sarif_prepare.specs.Chosen.{chosen_merge}
 use Rattle.sarif_prepare.specs.Ruled.{matched_in}
 use Rattle.sarif_prepare.specs.Told.{active_impacts, of_all, shown_by, told_in, told_ruled, told_with, with_impact}
 use Rattle.sarif_reports.specs.JunitLaws.{occurrences}
@@ -30,10 +33,13 @@ use Rattle.sarif_reports.proofs.PolicyFindings.{policy_fails}
 use Rattle.sarif_results.proofs.JudgedCounts.{records_of_logs}
 use Rattle.sarif_runs.specs.Judging.{run_values}
 use Rattle.sarif_runs.specs.Placed.{Placed}
+use Rattle.sarif_upkeep.specs.Renewed.{accepted_in}
 use Rattle.sarif_shown.specs.PolicyLaws.{AreRuled, is_fail}
+use Rattle.sarif_laws_policy.specs.Accepted.{acceptable, current_hits}
 use Rattle.sarif_laws_policy.specs.HaveRecords.{HaveRecords}
+use Rattle.sarif_laws_policy.proofs.AcceptedHits.{accepted_hits}
 use Rattle.sarif_laws_policy.proofs.TellingAll.{ruled_told}
-use Rattle.sarif_laws.specs.Decided.{results_given}
+use Rattle.sarif_laws.specs.Decided.{matched_given, results_given}
 use Rattle.sarif_laws.proofs.Remembered.{faultless_before}
 
 module _ (inputs : Inputs) (none : faults_of inputs ≡ []) where
@@ -68,11 +74,24 @@ module _ (inputs : Inputs) (none : faults_of inputs ≡ []) where
     ruled : AreRuled reporting.show cs (results_given inputs cs) (told_given inputs (Some reporting))
     ruled =
         ap (λ (fs : List Finding). map (λ (f : Finding). f.impact) fs) told_is
-        ∙ ruled_told inputs.checks.matching (file_given inputs) (change_given inputs) now before cs reporting records_given
+        ∙ ruled_told inputs.checks.matching (file_given inputs) (change_given inputs) now before cs records_given reporting
 
 pub merge_ruled : (inputs : Inputs) (cs : List GateCondition) (reporting : Reporting) → faults_of inputs ≡ [] → inputs.checks.once ≡ false
     → conditions_given inputs ≡ Some cs → AreRuled reporting.show cs (results_given inputs cs) (told_given inputs (Some reporting))
 merge_ruled inputs cs reporting none whole given = ruled inputs none cs reporting whole given
+
+-- ---- what is accepted
+
+pub policy_accepts : (inputs : Inputs) (policy : Policy) (cs : List GateCondition) → faults_of inputs ≡ [] → inputs.checks.once ≡ false
+    → conditions_given inputs ≡ Some cs
+    → accepted_in (merge_counted inputs policy None) ≡ acceptable (file_given inputs) (current_hits cs (matched_given inputs))
+policy_accepts inputs policy cs none whole given =
+    ap (λ conditions. accepted_in (merge_by conditions inputs.checks (file_given inputs) inputs.suppressions (change_given inputs) policy None
+    (input_runs inputs) (baseline_runs inputs))) given
+    ∙ ap (λ once. accepted_in (chosen_merge (Some cs) inputs.checks (file_given inputs) inputs.suppressions (change_given inputs) policy None
+    (counted_if once (input_runs inputs)) (counted_if once (baseline_runs inputs)))) whole
+    ∙ accepted_hits inputs.checks (file_given inputs) inputs.suppressions (change_given inputs) policy (input_runs inputs) (baseline_runs inputs) cs
+    (records_given inputs none)
 
 -- ---- each is the finding of a result of the log
 

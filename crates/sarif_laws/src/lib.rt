@@ -18,4 +18,7 @@ pub use laws::{
     snippets_that_no_entry_compares_change_nothing, the_gate_counts_the_hits,
     the_known_log_is_read_again, the_new_file_is_read_as_itself,
 };
-pub use policy::{findings_of_a_merge_follow_its_policy, junit_fails_if_the_policy_does};
+pub use policy::{
+    accepting_takes_the_hits_of_the_policy, findings_of_a_merge_follow_its_policy,
+    junit_fails_if_the_policy_does,
+};

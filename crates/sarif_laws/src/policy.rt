@@ -1,5 +1,5 @@
 //! Laws of whole merges with a policy, each the contract of a function that does nothing.
-ghost use Rattle.std.specs.Prelude.{◌≡◌, ◌<◌, ◌^◌, false, List, Some, [], codes, length, nat_lt};
+ghost use Rattle.std.specs.Prelude.{◌≡◌, ◌<◌, ◌^◌, false, List, None, Some, [], codes, length, nat_lt};
 ghost use Rattle.std.specs.List.{All};
 ghost use Rattle.serde_json.specs.Data.{Data};
 ghost use Rattle.sarif_conditions.specs.Facts.{facts_of as decided_facts, verdict_told};
@@ -7,13 +7,17 @@ ghost use Rattle.sarif_findings.specs.Lookup.{elements_in};
 ghost use Rattle.sarif_findings.specs.declared.reporting.Reporting.{Reporting};
 ghost use Rattle.sarif_inputs.specs.Faults.{faults_of};
 ghost use Rattle.sarif_inputs.specs.Inputs.{Inputs};
-ghost use Rattle.sarif_merge.specs.MergedLog.{conditions_given, runs_counted, told_given};
+ghost use Rattle.sarif_laws_policy.specs.Accepted.{acceptable, current_hits};
+ghost use Rattle.sarif_merge.specs.Life.{merge_counted};
+ghost use Rattle.sarif_merge.specs.MergedLog.{conditions_given, file_given, runs_counted, told_given};
+ghost use Rattle.sarif_options.specs.declared.policy.Policy.{Policy};
 ghost use Rattle.sarif_policy.specs.declared.condition.GateCondition.{GateCondition};
 ghost use Rattle.sarif_prepare.specs.Told.{of_all};
 ghost use Rattle.sarif_reports.specs.JunitLaws.{occurrences};
 ghost use Rattle.sarif_reports.specs.PolicyReports.{IsFindingOf, document_of_policy};
 ghost use Rattle.sarif_shown.specs.PolicyLaws.{AreRuled, is_fail};
-ghost use Rattle.sarif_laws.specs.Decided.{results_given};
+ghost use Rattle.sarif_upkeep.specs.Renewed.{accepted_in};
+ghost use Rattle.sarif_laws.specs.Decided.{matched_given, results_given};
 
 /// The findings of a merge with a policy are those of the results that its conditions report and that are shown, in the
 /// order of the results, and each says what its result does to the gate. Each is the finding of a result of the log. So
@@ -38,4 +42,13 @@ pub fn junit_fails_if_the_policy_does()
         → nat_lt 0 (occurrences (codes "<failure ")
         (document_of_policy (told_given inputs (Some reporting))))
         ≡ is_fail (verdict_told (decided_facts cs (results_given inputs cs))) }
+{}
+
+/// Accepting with a policy accepts the hits of its conditions, and no other results: of the current ones those that an entry
+/// can make suppressed, in their order.
+pub fn accepting_takes_the_hits_of_the_policy()
+    ensures { (inputs : Inputs) (policy : Policy) (cs : List GateCondition)
+        → faults_of inputs ≡ [] → inputs.checks.once ≡ false → conditions_given inputs ≡ Some cs
+        → accepted_in (merge_counted inputs policy None)
+        ≡ acceptable (file_given inputs) (current_hits cs (matched_given inputs)) }
 {}

@@ -1,2 +1,3 @@
+pub mod AcceptedHits
 pub mod ShownImpacts
 pub mod TellingAll

@@ -60,13 +60,9 @@ absent_states : (ds : List Draft) → map (λ _. Some Absent) ds ≡ map Some (m
 absent_states [] = refl
 absent_states (d ∷ ds) = ap (λ ss. Some Absent ∷ ss) (absent_states ds)
 
-module _ (v : MatchingVersion) (file : File) (change : Option GatedChange) (now before : List Placed) (cs : List GateCondition) (reporting : Reporting)
-    (h : HaveRecords now before) where
+module _ (v : MatchingVersion) (file : File) (change : Option GatedChange) (now before : List Placed) (cs : List GateCondition) (h : HaveRecords now before) where
   abbrev m : Matched
   m = matched_in v file change now before
-
-  abbrev all : Reporting
-  all = of_all reporting
 
   abbrev runs : List Data
   runs = run_values now
@@ -85,17 +81,17 @@ module _ (v : MatchingVersion) (file : File) (change : Option GatedChange) (now 
   total : length (limited_records file now) ≡ results_total runs
   total = limited_long file (records_of now) ∙ h.inputs ∙ results_long runs
 
-  drafts_many : length m.drafts ≡ length m.records
+  pub drafts_many : length m.drafts ≡ length m.records
   drafts_many = drafts_long (listing_of file) (applied_of file) (limited_records file now) (flat_map results_of runs) (total ∙ sym (results_long runs))
 
-  states_many : length m.states ≡ length m.records
+  pub states_many : length m.states ≡ length m.records
   states_many =
       states_long v (records_of before) (partners_in v (records_of now) (records_of before)) 0 (records_of now) ∙ sym (limited_long file (records_of now))
 
   drafts_pairs : length m.drafts ≡ length pairs
   drafts_pairs = drafts_many ∙ total ∙ sym (results_long runs) ∙ sym (pairs_many results_of runs)
 
-  drafts_spots : length m.drafts ≡ length (spots_from 0 now)
+  pub drafts_spots : length m.drafts ≡ length (spots_from 0 now)
   drafts_spots = drafts_pairs ∙ ap length (sym (pairs_of_all now)) ∙ length-map (spots_from 0 now) (pair_at now)
 
   olds_many : length (drafts_before before) ≡ length (records_of before)
@@ -118,70 +114,74 @@ module _ (v : MatchingVersion) (file : File) (change : Option GatedChange) (now 
       unmarked_long taken (drafts_before before) (flat_map present_in olds) (olds_many ∙ sym olds_pairs)
       ∙ ap length (sym (untaken_is taken (flat_map present_in olds)))
 
-  current_many : length (current_results cs m) ≡ length m.drafts
+  pub current_many : length (current_results cs m) ≡ length m.drafts
   current_many = current_each cs m (sym drafts_many) (states_many ∙ sym drafts_many) drafts_spots
 
   absent_many : length (absent_results cs m) ≡ length m.left
   absent_many = absent_each cs m left_many olds_pairs
 
-  -- ---- the findings of all active results
+  module _ (reporting : Reporting) where
+    abbrev all : Reporting
+    all = of_all reporting
 
-  abbrev ys : List State
-  ys = map (λ _. Absent) m.left
+    -- ---- the findings of all active results
 
-  abbrev found_now : List Finding
-  found_now = told_each all pairs m.drafts (map Some m.states)
+    abbrev ys : List State
+    ys = map (λ _. Absent) m.left
 
-  abbrev found_gone : List Finding
-  found_gone = told_each all others m.left (map Some ys)
+    abbrev found_now : List Finding
+    found_now = told_each all pairs m.drafts (map Some m.states)
 
-  told_now : flat_map (reported_in all) (current_runs v file now before) ≡ found_now
-  told_now =
-      sym (runs_told all (listing_of file) (applied_of file) (limited_records file now) m.states runs h.inputs_are_runs total states_many)
+    abbrev found_gone : List Finding
+    found_gone = told_each all others m.left (map Some ys)
 
-  told_gone : flat_map (reported_in all) (leftover_runs v now before) ≡ found_gone
-  told_gone =
-      sym (untaken_told all (records_of before) taken olds h.baselines_are_runs h.baselines taken_many (olds_pairs ∙ sym taken_many) (olds_many ∙ sym taken_many))
-      ∙ ap (λ ds. told_each all others ds (map (λ _. Some Absent) ds)) (untaken_is taken (drafts_before before))
-      ∙ ap (told_each all others m.left) (absent_states m.left)
+    told_now : flat_map (reported_in all) (current_runs v file now before) ≡ found_now
+    told_now =
+        sym (runs_told all (listing_of file) (applied_of file) (limited_records file now) m.states runs h.inputs_are_runs total states_many)
 
-  told_all : told_of (Some all) (runs_by v file now before) ≡ found_now ++ found_gone
-  told_all =
-      flat_map-append (reported_in all) (current_runs v file now before) (leftover_runs v now before)
-      ∙ ap₂ (λ fs gs. fs ++ gs) told_now told_gone
+    told_gone : flat_map (reported_in all) (leftover_runs v now before) ≡ found_gone
+    told_gone =
+        sym (untaken_told all (records_of before) taken olds h.baselines_are_runs h.baselines taken_many (olds_pairs ∙ sym taken_many) (olds_many ∙ sym taken_many))
+        ∙ ap (λ ds. told_each all others ds (map (λ _. Some Absent) ds)) (untaken_is taken (drafts_before before))
+        ∙ ap (told_each all others m.left) (absent_states m.left)
 
-  -- ---- as many as active results
+    told_all : told_of (Some all) (runs_by v file now before) ≡ found_now ++ found_gone
+    told_all =
+        flat_map-append (reported_in all) (current_runs v file now before) (leftover_runs v now before)
+        ∙ ap₂ (λ fs gs. fs ++ gs) told_now told_gone
 
-  abbrev does : Judged → Option Impact
-  does = impact_of cs (results_in cs m)
+    -- ---- as many as active results
 
-  abbrev rs : List Judged
-  rs = current_results cs m
+    abbrev does : Judged → Option Impact
+    does = impact_of cs (results_in cs m)
 
-  abbrev qs : List Judged
-  qs = absent_results cs m
+    abbrev rs : List Judged
+    rs = current_results cs m
 
-  long_now : length found_now ≡ length (map does (active_in rs))
-  long_now =
-      active_long reporting.show reporting does (no_impact cs (results_in cs m)) pairs m.drafts m.states rs drafts_pairs
-      (states_many ∙ sym drafts_many ∙ drafts_pairs) (current_many ∙ drafts_pairs) (active_as m.records m.states m.drafts (current_seen cs m))
+    abbrev qs : List Judged
+    qs = absent_results cs m
 
-  long_gone : length found_gone ≡ length (map does (active_in qs))
-  long_gone =
-      active_long reporting.show reporting does (no_impact cs (results_in cs m)) others m.left ys qs left_pairs
-      (length-map m.left (λ _. Absent) ∙ left_pairs) (absent_many ∙ left_pairs)
-      (active_as (unmarked m.taken m.known) (for_each Absent m.left) m.left (absent_seen cs m))
+    long_now : length found_now ≡ length (map does (active_in rs))
+    long_now =
+        active_long reporting.show reporting does (no_impact cs (results_in cs m)) pairs m.drafts m.states rs drafts_pairs
+        (states_many ∙ sym drafts_many ∙ drafts_pairs) (current_many ∙ drafts_pairs) (active_as m.records m.states m.drafts (current_seen cs m))
 
-  active_both : active_impacts cs m ≡ map does (active_in rs) ++ map does (active_in qs)
-  active_both = ap (map does) (filter-append (λ r. not r.suppressed) rs qs) ∙ map-append does (active_in rs) (active_in qs)
+    long_gone : length found_gone ≡ length (map does (active_in qs))
+    long_gone =
+        active_long reporting.show reporting does (no_impact cs (results_in cs m)) others m.left ys qs left_pairs
+        (length-map m.left (λ _. Absent) ∙ left_pairs) (absent_many ∙ left_pairs)
+        (active_as (unmarked m.taken m.known) (for_each Absent m.left) m.left (absent_seen cs m))
 
-  long_all : length (told_of (Some all) (runs_by v file now before)) ≡ length (active_impacts cs m)
-  long_all =
-      ap length told_all ∙ length-append found_now found_gone
-      ∙ ap₂ (λ (n k : ℕ). n + k) long_now long_gone
-      ∙ sym (ap length active_both ∙ length-append (map does (active_in rs)) (map does (active_in qs)))
+    active_both : active_impacts cs m ≡ map does (active_in rs) ++ map does (active_in qs)
+    active_both = ap (map does) (filter-append (λ r. not r.suppressed) rs qs) ∙ map-append does (active_in rs) (active_in qs)
 
-  pub ruled_told : AreRuled reporting.show cs (results_in cs m) (told_ruled cs m reporting (runs_by v file now before))
-  ruled_told =
-      shown.impacts_told reporting.show (active_impacts cs m) (told_of (Some all) (runs_by v file now before)) long_all
-      ∙ shown.shown_active reporting.show does (no_impact cs (results_in cs m)) (results_in cs m)
+    long_all : length (told_of (Some all) (runs_by v file now before)) ≡ length (active_impacts cs m)
+    long_all =
+        ap length told_all ∙ length-append found_now found_gone
+        ∙ ap₂ (λ (n k : ℕ). n + k) long_now long_gone
+        ∙ sym (ap length active_both ∙ length-append (map does (active_in rs)) (map does (active_in qs)))
+
+    pub ruled_told : AreRuled reporting.show cs (results_in cs m) (told_ruled cs m reporting (runs_by v file now before))
+    ruled_told =
+        shown.impacts_told reporting.show (active_impacts cs m) (told_of (Some all) (runs_by v file now before)) long_all
+        ∙ shown.shown_active reporting.show does (no_impact cs (results_in cs m)) (results_in cs m)
