@@ -20,7 +20,7 @@ use Rattle.sarif_change.specs.declared.uri.SoughtPath.{SoughtPath}
 use Rattle.sarif_change.proofs.LinksMore as links_more
 use Rattle.sarif_change.proofs.OnceMore.{bytes, first_left}
 use Rattle.sarif_change.proofs.PathsMore.{first_is, rest_is}
-use Rattle.sarif_change.proofs.TreeMore.{found_in_all, found_in_none}
+use Rattle.sarif_change.proofs.TreeMore.{found_in_all}
 
 abbrev pub Found : Type 0
 Found = List (Bor (Bool × List Span))
@@ -71,13 +71,6 @@ all_added old new files shared key right opened pushed lines =
     pushed lines
     ∙ ap (λ b. any_changed lines old || b)
     (right.changed lines ∙ sym (found_in_all files shared.beginning.items key lines right.beginning opened))
-
-pub none_alike : (old : Found) (files : List ChangedFile) (shared : SharedPart) (key : List ℕ) → IsShared shared files
-    → alike shared.beginning.items key ≡ false
-    → (lines : Option Span) → any_changed lines old ≡ (any_changed lines old || list_any (found_at key lines) files)
-none_alike old files shared key right none lines =
-    or_none (any_changed lines old)
-    ∙ ap (λ b. any_changed lines old || b) (sym (found_in_none files shared.beginning.items key lines right.beginning none))
 
 pub none_added : (found : Found) (tree : Option (List ChangedFile)) (key : List ℕ) → tree ≡ None
     → (lines : Option Span) → any_changed lines found ≡ (any_changed lines found || list_any (found_at key lines) (tree_files tree))

@@ -6,6 +6,7 @@ pub mod JoinedMore
 pub mod KeysMore
 pub mod KnownMore
 pub mod LinksMore
+pub mod NextMore
 pub mod OnceMore
 pub mod OutsideMore
 pub mod PartsMore

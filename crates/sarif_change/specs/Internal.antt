@@ -2,6 +2,7 @@ pub mod Files
 pub mod Index
 pub mod Keys
 pub mod NamesSeen
+pub mod NextBytes
 pub mod Raised
 pub mod Sought
 pub mod TreeFalls

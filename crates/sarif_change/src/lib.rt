@@ -11,6 +11,7 @@ mod keys;
 mod known;
 mod laws;
 mod lines;
+mod next;
 mod once;
 mod parts;
 mod spots;

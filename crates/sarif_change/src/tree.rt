@@ -4,11 +4,13 @@ ghost use Rattle.std.specs.List.{list_any, list_all};
 ghost use Rattle.sarif_diff.specs.declared.section.Span.{Span as OneSpan};
 ghost use Rattle.sarif_change.specs.Internal.Keys as keys;
 ghost use Rattle.sarif_change.specs.Internal.Files.{any_changed, changed_at, found_at};
+ghost use Rattle.sarif_change.specs.Internal.NextBytes.{is_next};
 
 use crate::file::{ChangedFile, SharedPart};
 use crate::found::push_if;
 use crate::keys::{alike, beginning_of, opens};
 use crate::lines::ChangedLines;
+use crate::next::NextBytes;
 use std::alloc::{AllocError, Global};
 use std::marker::Model;
 
@@ -71,6 +73,17 @@ impl Tree {
         }
     }
 
+    /// Returns what follows the first bytes of the keys.
+    #[tactic(auto, using(crate::proofs::NextMore::one_next))]
+    fn next_bytes(&self, at: usize) -> NextBytes
+        ensures { list_all (λ file. is_next result at file.key.items) self.now ≡ true }
+    {
+        match &self.node {
+            Node::One(file) => NextBytes::of(&file.key, at),
+            Node::Two(left, _, right) => left.next_bytes(at).both(right.next_bytes(at)),
+        }
+    }
+
     /// Returns the tree of all files of two. Returns `AllocError` if memory runs out.
     fn join(alloc: Global, left: Tree, right: Tree) -> Result<Tree, AllocError>
         requires left { 1 ≤ length left }
@@ -78,10 +91,16 @@ impl Tree {
         ensures { IfOk result (λ tree. tree ≡ left ++ right) }
     {
         let beginning = Vec::from_slice(alloc, beginning_of(left.beginning(), right.beginning()))?;
+        let at = beginning.len();
+        let next = left.next_bytes(at).both(right.next_bytes(at));
         let changed = ChangedLines::both(alloc, left.changed(), right.changed())?;
         let left = Box::new(alloc, left)?;
         let right = Box::new(alloc, right)?;
-        let shared = SharedPart { beginning, changed };
+        let shared = SharedPart {
+            beginning,
+            next,
+            changed,
+        };
         Ok(Tree {
             node: Node::Two(left, shared, right),
         })
@@ -132,7 +151,7 @@ impl Tree {
                     push_if(found, true, &shared.changed)?;
                     return Ok(());
                 }
-                if !alike(&shared.beginning, key) {
+                if shared.rules_out(key) {
                     return Ok(());
                 }
                 left.find(found, key)?;

@@ -98,6 +98,21 @@ fn names_with_marks_of_uris_are_found(rt: HostRuntime) -> Result<(), Fail> {
 }
 
 #[test]
+fn a_file_that_others_end_with_is_found(rt: HostRuntime) -> Result<(), Fail> {
+    let changed = changed_by(
+        &rt,
+        "--- a/a.c\n+++ b/a.c\n@@ -1 +1,2 @@\n x\n+y\n--- a/n/a.c\n+++ b/n/a.c\n@@ -1 +1,2 @@\n x\n+y\n--- a/n/b.c\n+++ b/n/b.c\n@@ -1 +1,2 @@\n x\n+y\n",
+    )?;
+    let inside = ["a.c", "n/a.c", "z/a.c", "b/a.c", "z/n/b.c", "b.c"];
+    let told = other_uris(rt.alloc(), &changed, &[], 2, false, &inside)?;
+    assert_eq!(rt; told.as_str(), "");
+    let outside = ["z/b.c", "b/b.c", "na.c", "c.c", "a.h"];
+    let told = other_uris(rt.alloc(), &changed, &[], 2, true, &outside)?;
+    assert_eq!(rt; told.as_str(), "");
+    Ok(())
+}
+
+#[test]
 fn a_link_may_be_a_folder(rt: HostRuntime) -> Result<(), Fail> {
     let changed = changed_by(
         &rt,

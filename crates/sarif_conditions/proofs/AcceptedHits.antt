@@ -30,7 +30,7 @@ and_swap true true false = refl
 and_swap true false true = refl
 and_swap true false false = refl
 
--- what a condition requires of an active result, whatever its `diff`
+-- what a condition requires of an active result, with any `diff`
 abbrev would_by : Bool → Bool → Bool → Bool → Bool → Bool
 would_by active checked level rating listed = (active && checked && level && rating) && listed
 

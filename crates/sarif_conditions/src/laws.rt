@@ -72,8 +72,8 @@ pub fn one_condition_is_the_options()
         ≡ verdict_on (count_by (is_hit_by_options policy diff) rs) policy }
 {}
 
-/// Accepting takes just the accepted results from the hits, and from those that would be hits inside the change: the hits
-/// afterwards are those of before that no added entry makes suppressed. If none is left, the verdict is pass, whatever the
+/// Accepting takes only the accepted results from the hits, and from those that would be hits inside the change: the hits
+/// afterwards are those of before that no added entry makes suppressed. If none is left, the verdict is pass with any
 /// limits.
 pub fn accepting_leaves_the_other_hits()
     ensures hits { (cs : List GateCondition) (accepted : Bool) (r : Judged)

@@ -223,7 +223,8 @@ impl Reading {
         draft: SectionDraft,
     ) -> Result<Option<SectionDraft>, Refusal<DiffFault>>
         ensures ok { IfOk result
-            (λ next. said.header_line (said.numbered line.now) self.old draft ≡ Ok (self.new, next)) }
+            (λ next. said.header_line (said.numbered line.now) self.old draft
+            ≡ Ok (self.new, next)) }
         ensures err { IfFault result
             (λ fault. said.header_line (said.numbered line.now) self.old draft ≡ Err fault) }
     {

@@ -133,7 +133,8 @@ pub fn no_two_have_the_same_match_in_either_version()
 /// result is new or updated if every baseline result of its tool, place and message has another snippet than its own.
 pub fn unchanged_results_have_a_match_that_is_the_same()
     ensures same { (current baseline : List Record) (i : ℕ) (r : Record) →
-        slice_get current i ≡ Some r → state_in Three r (match_in Three current baseline i) ≡ Unchanged →
+        slice_get current i ≡ Some r →
+        state_in Three r (match_in Three current baseline i) ≡ Unchanged →
         (j : ℕ) × (b : Record)
         × (slice_index_or (partners_in Three current baseline) i None ≡ Some j)
         × (slice_get baseline j ≡ Some b) × AreTheSame r b }

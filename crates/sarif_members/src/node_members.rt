@@ -263,7 +263,8 @@ pub fn elements_if_there<'t, 'a>(
     name: &str,
 ) -> Result<Vec<Node<'t, 'a>>, AllocError>
     ensures { IfOk result (λ nodes. map value_at nodes.items
-        ≡ elements_or_none (option_and_then as_array (said.member_at name.now (value_at node.now)))) }
+        ≡ elements_or_none
+        (option_and_then as_array (said.member_at name.now (value_at node.now)))) }
 {
     let Some(member) = member_at(node, name) else {
         return Ok(Vec::new(alloc));
