@@ -29,7 +29,7 @@ at_end (x ∷ xs) (suc n) past = at_end xs n (omega (arith, past))
 pub own_next : (next : NextBytes) (n : ℕ) (key : List ℕ) → next.least ≡ next_at n key → next.most ≡ next_at n key → is_next next n key ≡ true
 own_next next n key l m = grind (arith, nat_tests)
 
--- ---- of several keys
+-- ---- several keys
 
 pub first_next : (first second both : NextBytes) (n : ℕ) (key : List ℕ)
     → both.least ≡ min first.least second.least → both.most ≡ max first.most second.most

@@ -6,7 +6,7 @@ use Rattle.sarif_conditions.specs.Internal.Tried.{passing}
 use Rattle.sarif_conditions.specs.Judged.{judged_of}
 use Rattle.sarif_conditions.proofs.trying.try_filed.Given as goal
 
--- the answers for the results so far, and those for the results that are left
+-- which of the results so far match, and which of those that are left
 abbrev pub invariant-loop-found : goal.invariant-loop-found
 invariant-loop-found g l = record {
   told : l.matched.items ++ passing (any_matches l.filed.entries) (map judged_of (drop l.found-index l.results))
