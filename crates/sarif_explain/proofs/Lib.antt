@@ -1,3 +1,4 @@
 pub mod DiffMore
 pub mod EscapedMore
+pub mod PastLimitMore
 pub mod ShortenedMore

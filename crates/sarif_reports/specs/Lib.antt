@@ -1,5 +1,6 @@
 pub mod GitlabParts
 pub mod GitlabReport
+pub mod Help
 pub mod Internal
 pub mod JunitLaws
 pub mod JunitReport

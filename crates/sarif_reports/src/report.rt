@@ -1,6 +1,7 @@
 //! The outputs besides the merged log as rows: a variant for each, with its name, its help and its content.
 ghost use Rattle.std.specs.Prelude.{◌≡◌, ◌≤◌, IfOk, string_bytes};
 ghost use Rattle.sarif_shown.specs.Facts.{facts_of};
+ghost use Rattle.sarif_reports.specs.Help.{help_of};
 ghost use Rattle.sarif_reports.specs.Report.{is_for_merges, needs_findings, report_name, report_of};
 
 use crate::later_outputs::{known_text, suppressions_text, unused_text};
@@ -71,7 +72,9 @@ impl Report {
     }
 
     /// Returns what `--help` says about the option of this output, or nothing if it has none.
-    pub fn help(self) -> &'static str {
+    pub fn help(self) -> &'static str
+        ensures { result.now ≡ help_of self }
+    {
         match self {
             Report::Suppressions =>
                 "Write a new suppression file, made with --accept, --prune or both. It\n\

@@ -1,9 +1,11 @@
 pub mod Added
 pub mod Asked
 pub mod Fitting
+pub mod Named
 pub mod Numbers
 pub mod OffTerminal
 pub mod Repeats
+pub mod Rowed
 pub mod Rows
 pub mod Told
 pub mod WantedMore

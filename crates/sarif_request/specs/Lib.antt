@@ -1,8 +1,10 @@
 pub mod Command
 pub mod Dates
+pub mod Help
 pub mod Listing
 pub mod Names
 pub mod Scoping
+pub mod Sentences
 pub mod Showing
 pub mod Terminal
 pub mod Together

@@ -1,7 +1,8 @@
 //! Names in the arguments that clash.
-ghost use Rattle.std.specs.Prelude.{◌≡◌, IfOk, Option, map};
+ghost use Rattle.std.specs.Prelude.{◌≡◌, IfOk, Option, codes, find, map, option_map, string_bytes};
 ghost use Rattle.std.specs.List.{list_any};
 ghost use Rattle.sarif_request.specs.Names as said;
+ghost use Rattle.sarif_request.specs.Sentences as text;
 
 use crate::repeated::first_repeated;
 use crate::request::Request;
@@ -45,13 +46,18 @@ struct Output<'a> {
 
 impl Clash {
     /// Returns whether two inputs have the same name.
-    pub fn is_repeat(self) -> bool {
+    pub fn is_repeat(self) -> bool
+        ensures { result ≡ text.is_repeat self }
+    {
         matches!(self, Clash::RepeatedLog | Clash::RepeatedBaseline)
     }
 
     /// Returns the sentence for users, which names the options and the file of this request that clash. Returns
     /// `AllocError` if memory runs out.
-    pub fn sentence(self, alloc: Global, request: &Request) -> Result<String, AllocError> {
+    pub fn sentence(self, alloc: Global, request: &Request) -> Result<String, AllocError>
+        ensures { IfOk result
+            (λ s. string_bytes s ≡ text.clash_text self (said.names_of request.now)) }
+    {
         match self {
             Clash::RepeatedLog => repeated_log_told(alloc, request),
             Clash::RepeatedBaseline => repeated_baseline_told(alloc, request),
@@ -70,7 +76,10 @@ impl Clash {
 }
 
 /// Names the first log that is passed twice.
-fn repeated_log_told(alloc: Global, request: &Request) -> Result<String, AllocError> {
+fn repeated_log_told(alloc: Global, request: &Request) -> Result<String, AllocError>
+    ensures { IfOk result (λ s. string_bytes s
+        ≡ text.repeated_log_text (text.repeated_name request.now.logs.items)) }
+{
     let name = repeated_name(alloc, request, &request.logs)?;
     if name == STANDARD {
         String::from_str(alloc, "standard input (-) can be only one of the logs")
@@ -80,7 +89,10 @@ fn repeated_log_told(alloc: Global, request: &Request) -> Result<String, AllocEr
 }
 
 /// Names the first baseline that is passed twice.
-fn repeated_baseline_told(alloc: Global, request: &Request) -> Result<String, AllocError> {
+fn repeated_baseline_told(alloc: Global, request: &Request) -> Result<String, AllocError>
+    ensures { IfOk result (λ s. string_bytes s
+        ≡ text.repeated_baseline_text (text.repeated_name request.now.baselines.items)) }
+{
     let name = repeated_name(alloc, request, &request.baselines)?;
     format!(in alloc; "the baseline {name} is passed twice")
 }
@@ -90,7 +102,9 @@ fn repeated_name<'a>(
     alloc: Global,
     request: &Request,
     names: &'a Vec<Text>,
-) -> Result<&'a str, AllocError> {
+) -> Result<&'a str, AllocError>
+    ensures { IfOk result (λ name. name.now ≡ text.repeated_name names.now.items) }
+{
     match first_repeated(alloc, request.options.seed, names.as_slice())? {
         Some(name) => Ok(name.as_str()),
         None => Ok(""),
@@ -98,7 +112,11 @@ fn repeated_name<'a>(
 }
 
 /// Returns the outputs of a request: the merged log and then the others.
-fn outputs_of<'a>(alloc: Global, request: &'a Request) -> Result<Vec<Output<'a>>, AllocError> {
+#[tactic(auto, using(crate::proofs::Named::named_more))]
+fn outputs_of<'a>(alloc: Global, request: &'a Request) -> Result<Vec<Output<'a>>, AllocError>
+    ensures { IfOk result
+        (λ v. map text.named v.items ≡ text.named_outputs (said.names_of request.now)) }
+{
     let mut outputs = Vec::new(alloc);
     outputs.push(Output {
         option: "out",
@@ -114,21 +132,30 @@ fn outputs_of<'a>(alloc: Global, request: &'a Request) -> Result<Vec<Output<'a>>
 }
 
 /// Names the first output that would overwrite the suppression file.
-fn suppressions_told(alloc: Global, request: &Request) -> Result<String, AllocError> {
+fn suppressions_told(alloc: Global, request: &Request) -> Result<String, AllocError>
+    ensures { IfOk result
+        (λ s. string_bytes s ≡ text.suppressions_text (said.names_of request.now)) }
+{
     let name = match &request.suppress {
         Some(name) => name.as_str(),
         None => "",
     };
-    let mut option = "out";
+    let option = replacing_option(name, request);
+    format!(in alloc; "--{option} would overwrite the suppression file {name}")
+}
+
+/// Returns the option of the first output that would overwrite the suppression file of this name.
+fn replacing_option(name: &str, request: &Request) -> &'static str
+    ensures { result.now ≡ text.replacing_option name.now (said.names_of request.now) }
+{
     if request.out.as_str() != name {
         for wanted in &request.reports {
             if replaces_file(name, wanted) {
-                option = wanted.report.name();
-                break;
+                return wanted.report.name();
             }
         }
     }
-    format!(in alloc; "--{option} would overwrite the suppression file {name}")
+    "out"
 }
 
 /// Names the first output that would overwrite the policy or the diff.
@@ -137,34 +164,66 @@ fn input_file_told(
     request: &Request,
     called: &str,
     file: &Option<Text>,
-) -> Result<String, AllocError> {
+) -> Result<String, AllocError>
+    ensures { IfOk result (λ s. string_bytes s
+        ≡ text.input_file_text called.now file.now (said.names_of request.now)) }
+{
     let name = match file {
         Some(name) => name.as_str(),
         None => "",
     };
-    let mut option = "out";
-    if request.out.as_str() != name {
-        for wanted in &request.reports {
-            if wanted.to.as_str() == name {
-                option = wanted.report.name();
-                break;
-            }
-        }
-    }
+    let option = naming_option(name, request);
     format!(in alloc; "--{option} would overwrite the {called} {name}")
 }
 
-/// Names the first two outputs with one name.
-fn outputs_told(alloc: Global, request: &Request) -> Result<String, AllocError> {
-    let outputs = outputs_of(alloc, request)?;
-    for first in &outputs {
-        for second in &outputs {
-            if first.option != second.option && first.file == second.file {
-                return two_outputs_told(alloc, *first, *second);
+/// Returns the option of the first output with this name.
+fn naming_option(name: &str, request: &Request) -> &'static str
+    ensures { result.now ≡ text.naming_option name.now (said.names_of request.now) }
+{
+    if request.out.as_str() != name {
+        for wanted in &request.reports {
+            if wanted.to.as_str() == name {
+                return wanted.report.name();
             }
         }
     }
+    "out"
+}
+
+/// Names the first two outputs with one name.
+fn outputs_told(alloc: Global, request: &Request) -> Result<String, AllocError>
+    ensures { IfOk result
+        (λ s. string_bytes s ≡ text.first_shared_text (said.names_of request.now)) }
+{
+    let outputs = outputs_of(alloc, request)?;
+    shared_told(alloc, outputs.as_slice())
+}
+
+/// Names the first two of these outputs with one name.
+#[tactic(auto, using(crate::proofs::Named::told_here, crate::proofs::Named::told_later, crate::proofs::Named::told_nowhere))]
+fn shared_told(alloc: Global, outputs: &[Output<'_>]) -> Result<String, AllocError>
+    ensures { IfOk result (λ s. string_bytes s
+        ≡ text.outputs_text (map text.named outputs.now) (map text.named outputs.now)) }
+{
+    for first in outputs {
+        if let Some(second) = sharing_with(*first, outputs) {
+            return two_outputs_told(alloc, *first, second);
+        }
+    }
     String::from_str(alloc, "two outputs have the same name")
+}
+
+/// Returns the first of these outputs that has another option than this output, and the same name.
+fn sharing_with<'a>(first: Output<'_>, outputs: &[Output<'a>]) -> Option<Output<'a>>
+    ensures { option_map text.named result
+        ≡ find (text.share_file (text.named first.entry)) (map text.named outputs.now) }
+{
+    for second in outputs {
+        if first.option != second.option && first.file == second.file {
+            return Some(*second);
+        }
+    }
+    None
 }
 
 /// Names two outputs with one name.
@@ -172,27 +231,48 @@ fn two_outputs_told(
     alloc: Global,
     first: Output<'_>,
     second: Output<'_>,
-) -> Result<String, AllocError> {
+) -> Result<String, AllocError>
+    ensures { IfOk result (λ s. string_bytes s
+        ≡ text.two_outputs_text (text.named first.entry) (text.named second.entry)) }
+{
     let (one, other, file) = (first.option, second.option, first.file);
     if file == STANDARD {
-        format!(in alloc;
-            "--{one} and --{other} both write to standard output (-); only one output can"
-        )
+        both_standard_told(alloc, one, other)
     } else {
-        format!(in alloc;
-            "--{one} and --{other} both write to {file}; each output needs its own file"
-        )
+        both_file_told(alloc, one, other, file)
     }
 }
 
+/// Names the options of two outputs that are both standard output.
+fn both_standard_told(alloc: Global, one: &str, other: &str) -> Result<String, AllocError>
+    ensures { IfOk result (λ s. string_bytes s ≡ text.both_standard_text one.now other.now) }
+{
+    format!(in alloc;
+        "--{one} and --{other} both write to standard output (-); only one output can"
+    )
+}
+
+/// Names the options of two outputs that are both this file.
+fn both_file_told(alloc: Global, one: &str, other: &str, file: &str) -> Result<String, AllocError>
+    ensures { IfOk result
+        (λ s. string_bytes s ≡ text.both_file_text one.now other.now file.now) }
+{
+    format!(in alloc; "--{one} and --{other} both write to {file}; each output needs its own file")
+}
+
 /// Names the log that the merged log would overwrite.
-fn log_told(alloc: Global, request: &Request) -> Result<String, AllocError> {
+fn log_told(alloc: Global, request: &Request) -> Result<String, AllocError>
+    ensures { IfOk result
+        (λ s. string_bytes s ≡ text.overwrites (codes "out") (codes "log") request.now.out) }
+{
     let name = request.out.as_str();
     format!(in alloc; "--out would overwrite the log {name}")
 }
 
 /// Names the first other output that would overwrite a log or a baseline.
-fn inputs_told(alloc: Global, request: &Request) -> Result<String, AllocError> {
+fn inputs_told(alloc: Global, request: &Request) -> Result<String, AllocError>
+    ensures { IfOk result (λ s. string_bytes s ≡ text.inputs_text (said.names_of request.now)) }
+{
     for wanted in &request.reports {
         if replaces_input(request, wanted) {
             return input_told(alloc, request, wanted);
@@ -206,7 +286,10 @@ fn input_told(
     alloc: Global,
     request: &Request,
     wanted: &RequestedOutput<Text>,
-) -> Result<String, AllocError> {
+) -> Result<String, AllocError>
+    ensures { IfOk result
+        (λ s. string_bytes s ≡ text.input_text (said.names_of request.now) wanted.now) }
+{
     let option = wanted.report.name();
     let name = wanted.to.as_str();
     if request.logs.contains(&wanted.to) {

@@ -1,9 +1,10 @@
 //! The command line as its parser sees it: the options' rows, the rows of the outputs, and the help.
-ghost use Rattle.std.specs.Prelude.{◌≡◌, IfOk, false, map};
+ghost use Rattle.std.specs.Prelude.{◌≡◌, IfOk, false, map, string_bytes};
 ghost use Rattle.clap.specs.Words.{app_of, rule_of};
 ghost use Rattle.sarif_reports.specs.Report.{all_reports, report_name};
 ghost use Rattle.sarif_request.specs.Command.{IsProgram, argument_of, option_rule, with_reports};
 ghost use Rattle.sarif_request.specs.Command.{arguments, rule_by, rule_for, start, with_arguments};
+ghost use Rattle.sarif_request.specs.Help.{HasRow, row_between};
 
 use crate::option_rows::{Group, OptionKind, OptionRow, rows};
 use clap::builder::ValueParser;
@@ -60,15 +61,37 @@ pub fn command<'a>(alloc: Global) -> Result<Command<'a>, AllocError>
     with_reports(alloc, of_rows(alloc, ValueParser::from(LEVELS.as_slice()))?)
 }
 
-/// Returns the parser's help with the row of a file of arguments after its options.
-pub fn with_file_row(alloc: Global, help: &str) -> Result<String, AllocError> {
-    match help.split_once(AFTER) {
-        Some((options, rest)) => {
-            let options = options.trim_end();
-            format!(in alloc; "{options}\n{FILE_ROW}\n\n{AFTER}{rest}")
-        }
+/// Returns the parser's help with the row of a file of arguments after its options. Returns `AllocError` if memory runs
+/// out.
+pub fn with_file_row(alloc: Global, help: &str) -> Result<String, AllocError>
+    ensures { IfOk result (λ s. HasRow FILE_ROW.now AFTER.now help.now (string_bytes s)) }
+{
+    with_row(alloc, help, FILE_ROW, AFTER)
+}
+
+/// Returns a help with this row before what comes after its options. If that is not in the help, it is unchanged.
+fn with_row(alloc: Global, help: &str, row: &str, after: &str) -> Result<String, AllocError>
+    ensures { IfOk result (λ s. HasRow row.now after.now help.now (string_bytes s)) }
+{
+    match help.split_once(after) {
+        Some((options, rest)) => with_row_between(alloc, options, row, after, rest),
         None => String::from_str(alloc, help),
     }
+}
+
+/// Returns a help with these options, this row, and what comes after the options: `after` and the rest.
+fn with_row_between(
+    alloc: Global,
+    options: &str,
+    row: &str,
+    after: &str,
+    rest: &str,
+) -> Result<String, AllocError>
+    ensures { IfOk result
+        (λ s. string_bytes s ≡ row_between options.now row.now after.now rest.now) }
+{
+    let options = options.trim_end();
+    format!(in alloc; "{options}\n{row}\n\n{after}{rest}")
 }
 
 /// Returns the command with its options but those of the outputs besides the merged log.

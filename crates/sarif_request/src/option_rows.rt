@@ -1,6 +1,7 @@
 //! The options, a row for each but the reports.
-ghost use Rattle.std.specs.Prelude.{◌≡◌, map};
+ghost use Rattle.std.specs.Prelude.{◌≡◌, ◌↔◌, IsTrue, map};
 ghost use Rattle.sarif_request.specs.Command.{argument_of, arguments};
+ghost use Rattle.sarif_request.specs.Help.{IsDate, heading_of};
 
 use sarif_model::{FIRST_DAY, LAST_DAY, MOST_WORKERS};
 
@@ -21,7 +22,9 @@ pub enum Group {
 
 impl Group {
     /// Returns the heading of the group in the help.
-    pub fn heading(self) -> &'static str {
+    pub fn heading(self) -> &'static str
+        ensures { result.now ≡ heading_of self }
+    {
         match self {
             Group::Inputs => "Inputs",
             Group::Gate => "Gate",
@@ -76,7 +79,9 @@ pub struct OptionRow {
 const DATE: OptionKind = OptionKind::Number(FIRST_DAY as i64, LAST_DAY as i64);
 
 /// Returns whether an option of this kind takes a date.
-pub fn is_date(kind: OptionKind) -> bool {
+pub fn is_date(kind: OptionKind) -> bool
+    ensures { IsTrue result ↔ IsDate kind }
+{
     kind == DATE
 }
 

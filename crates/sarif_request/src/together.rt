@@ -1,5 +1,6 @@
 //! Which options go together.
 ghost use Rattle.std.specs.Prelude.{◌≡◌};
+ghost use Rattle.sarif_request.specs.Sentences.{misfit_text};
 ghost use Rattle.sarif_request.specs.Together as said;
 
 use sarif_entries::is_day;
@@ -94,7 +95,9 @@ pub enum Misfit {
 
 impl Misfit {
     /// Returns the sentence for users, which names the options.
-    pub fn sentence(self) -> &'static str {
+    pub fn sentence(self) -> &'static str
+        ensures { result.now ≡ misfit_text self }
+    {
         match self {
             Misfit::AcceptNeedsFile => "--accept needs --suppress-out",
             Misfit::PruneNeedsFile => "--prune needs --suppress-out",
