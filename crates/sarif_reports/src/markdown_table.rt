@@ -9,7 +9,6 @@ ghost use Rattle.sarif_shown.specs.CountRow.{row_begin, row_end};
 ghost use Rattle.sarif_shown.specs.Facts.{facts_of};
 ghost use Rattle.sarif_reports.specs.MarkdownReport as said;
 ghost use Rattle.sarif_reports.specs.MarkdownLaws.{most_of};
-ghost use Rattle.sarif_shown.specs.Sentences.{entries_text, filters_text, outside_text, runs_text, unchecked_text};
 
 use sarif_conditions::{ConditionFacts, PolicyFacts};
 use sarif_counts::{Counts, Verdict};
@@ -464,15 +463,22 @@ fn push_paragraph(text: &mut String, lines: &str) -> Result<(), AllocError>
     Ok(())
 }
 
+/// Returns this sentence as a line, or nothing if the number that it is about is 0.
+fn line_if(alloc: Global, number: usize, sentence: &str) -> Result<String, AllocError>
+    ensures { IfOk result (λ s. string_bytes s ≡ said.line_if number sentence.now) }
+{
+    if number == 0 {
+        return Ok(String::new(alloc));
+    }
+    format!(in alloc; "{sentence}\n")
+}
+
 /// The line on results that have no row, if there are any.
 fn more_line(alloc: Global, count: usize, hits: usize) -> Result<String, AllocError>
     ensures { IfOk result (λ s. string_bytes s ≡ said.more_line count hits) }
 {
-    if count == 0 {
-        return Ok(String::new(alloc));
-    }
     let sentence = more_text(alloc, count, hits)?;
-    format!(in alloc; "{sentence}\n")
+    line_if(alloc, count, sentence.as_str())
 }
 
 /// The line on these results, which have no row.
@@ -523,76 +529,13 @@ fn push_results(
     Ok(())
 }
 
-/// The line on runs without results, if there are any.
-fn runs_line(alloc: Global, without: u32) -> Result<String, AllocError>
-    ensures { IfOk result
-        (λ s. string_bytes s ≡ said.line_if without (runs_text without)) }
-{
-    if without == 0 {
-        return Ok(String::new(alloc));
-    }
-    let sentence = runs_text(alloc, without)?;
-    format!(in alloc; "{sentence}\n")
-}
-
-/// The line on entries that match nothing, if there are any.
-fn entries_line(alloc: Global, unused: u32) -> Result<String, AllocError>
-    ensures { IfOk result
-        (λ s. string_bytes s ≡ said.line_if unused (entries_text unused)) }
-{
-    if unused == 0 {
-        return Ok(String::new(alloc));
-    }
-    let sentence = entries_text(alloc, unused)?;
-    format!(in alloc; "{sentence}\n")
-}
-
-/// Returns the line on results outside of the change that would be hits, if there are any.
-fn outside_line(alloc: Global, outside: u32) -> Result<String, AllocError>
-    ensures { IfOk result
-        (λ s. string_bytes s ≡ said.line_if outside (outside_text outside)) }
-{
-    if outside == 0 {
-        return Ok(String::new(alloc));
-    }
-    let sentence = outside_text(alloc, outside)?;
-    format!(in alloc; "{sentence}\n")
-}
-
-/// Returns the line on filters that match nothing, if there are any.
-fn filters_line(alloc: Global, filters: u32) -> Result<String, AllocError>
-    ensures { IfOk result
-        (λ s. string_bytes s ≡ said.line_if filters (filters_text filters)) }
-{
-    if filters == 0 {
-        return Ok(String::new(alloc));
-    }
-    let sentence = filters_text(alloc, filters)?;
-    format!(in alloc; "{sentence}\n")
-}
-
-/// Returns the line on results that no condition checks, if there are any.
-fn unchecked_line(alloc: Global, unchecked: u32) -> Result<String, AllocError>
-    ensures { IfOk result
-        (λ s. string_bytes s ≡ said.line_if unchecked (unchecked_text unchecked)) }
-{
-    if unchecked == 0 {
-        return Ok(String::new(alloc));
-    }
-    let sentence = unchecked_text(alloc, unchecked)?;
-    format!(in alloc; "{sentence}\n")
-}
-
 /// The line on accepting the hits, if there are any.
 #[tactic(auto, unfolding(crate::specs::MarkdownReport::accept_line))]
 fn accept_line(alloc: Global, hits: u32) -> Result<String, AllocError>
     ensures { IfOk result (λ s. string_bytes s ≡ said.accept_line hits) }
 {
-    if hits == 0 {
-        return Ok(String::new(alloc));
-    }
     let sentence = accept_text(alloc, hits, "`", "`")?;
-    format!(in alloc; "{sentence}\n")
+    line_if(alloc, hits as usize, sentence.as_str())
 }
 
 /// The line on reported results that are not shown, if there are any.
@@ -600,11 +543,8 @@ fn accept_line(alloc: Global, hits: u32) -> Result<String, AllocError>
 fn unshown_line(alloc: Global, unshown: u32) -> Result<String, AllocError>
     ensures { IfOk result (λ s. string_bytes s ≡ said.unshown_line unshown) }
 {
-    if unshown == 0 {
-        return Ok(String::new(alloc));
-    }
     let sentence = unshown_text(alloc, unshown)?;
-    format!(in alloc; "{sentence}\n")
+    line_if(alloc, unshown as usize, sentence.as_str())
 }
 
 /// Adds the lines on results that are not shown and on accepting the hits, if there are any.
@@ -632,12 +572,17 @@ fn push_accept(alloc: Global, text: &mut String, hits: u32) -> Result<(), AllocE
 fn notes_of(alloc: Global, numbers: &Noted) -> Result<String, AllocError>
     ensures { IfOk result (λ s. string_bytes s ≡ said.notes numbers.now) }
 {
-    let without = runs_line(alloc, numbers.without)?;
-    let unused = entries_line(alloc, numbers.unused)?;
-    let filters = filters_line(alloc, numbers.filters)?;
-    let outside = outside_line(alloc, numbers.outside)?;
-    let unchecked = unchecked_line(alloc, numbers.unchecked)?;
-    format!(in alloc; "{without}{unused}{filters}{outside}{unchecked}")
+    let runs = runs_text(alloc, numbers.without)?;
+    let runs = line_if(alloc, numbers.without as usize, runs.as_str())?;
+    let entries = entries_text(alloc, numbers.unused)?;
+    let entries = line_if(alloc, numbers.unused as usize, entries.as_str())?;
+    let filters = filters_text(alloc, numbers.filters)?;
+    let filters = line_if(alloc, numbers.filters as usize, filters.as_str())?;
+    let outside = outside_text(alloc, numbers.outside)?;
+    let outside = line_if(alloc, numbers.outside as usize, outside.as_str())?;
+    let unchecked = unchecked_text(alloc, numbers.unchecked)?;
+    let unchecked = line_if(alloc, numbers.unchecked as usize, unchecked.as_str())?;
+    format!(in alloc; "{runs}{entries}{filters}{outside}{unchecked}")
 }
 
 /// Adds the lines on what wasn't checked, if there are any.
