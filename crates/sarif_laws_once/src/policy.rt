@@ -17,7 +17,7 @@ ghost use Rattle.sarif_laws_once.specs.TakenOut.{AreWithoutCopies, counting_each
 /// Conditions decide about the results without their copies. Let inputs have no errors and a policy, and let their copies
 /// not be counted. Then what the gate says about its conditions is what they decide about the results of the merge that
 /// are not copies, in their order: the hits, the limit and the verdict of each condition, and the number of unchecked
-/// results. So a copy is no hit, it isn't unchecked, and it makes no limit grow.
+/// results. So a copy is not a hit, it isn't unchecked, and it makes no limit grow.
 pub fn conditions_decide_without_copies()
     ensures { (inputs : Inputs) (cs : List GateCondition) → faults_of inputs ≡ []
         → inputs.checks.once ≡ true → conditions_given inputs ≡ Some cs
