@@ -9,7 +9,6 @@ pub mod CountsFound
 pub mod FindingsCounted
 pub mod InputsWithout
 pub mod JudgedWithout
-pub mod Junit
 pub mod LogWithout
 pub mod MoreLogs
 pub mod Numbers

@@ -11,6 +11,5 @@ pub use laws::{
 };
 pub use policy::{
     accepting_takes_the_hits_without_copies, conditions_decide_without_copies,
-    findings_follow_the_policy_without_copies, junit_fails_if_the_policy_does_without_copies,
-    policies_decide_the_same_if_copies_are_taken_out,
+    findings_follow_the_policy_without_copies, policies_decide_the_same_if_copies_are_taken_out,
 };

@@ -1,19 +1,15 @@
 //! Laws of whole merges with a policy in which copies aren't counted, each the contract of a function that does nothing.
-ghost use Rattle.std.specs.Prelude.{◌≡◌, ◌<◌, ◌^◌, ◌||◌, ℕ, List, None, Option, Some, [], codes, length, nat_lt, true};
-ghost use Rattle.serde_json.specs.Data.{Data};
-ghost use Rattle.sarif_conditions.specs.Facts.{facts_of as decided_facts, verdict_told};
-ghost use Rattle.sarif_findings.specs.Lookup.{elements_in};
+ghost use Rattle.std.specs.Prelude.{◌≡◌, ◌||◌, ℕ, List, None, Option, Some, [], true};
+ghost use Rattle.sarif_conditions.specs.Facts.{facts_of as decided_facts};
 ghost use Rattle.sarif_findings.specs.declared.reporting.Reporting.{Reporting};
 ghost use Rattle.sarif_inputs.specs.Faults.{faults_of};
 ghost use Rattle.sarif_inputs.specs.Inputs.{Inputs, looks_at_regions};
 ghost use Rattle.sarif_laws_policy.specs.Accepted.{acceptable};
 ghost use Rattle.sarif_merge.specs.Life.{merge_counted};
-ghost use Rattle.sarif_merge.specs.MergedLog.{conditions_given, file_given, ruling_given, runs_counted, told_given};
+ghost use Rattle.sarif_merge.specs.MergedLog.{conditions_given, file_given, ruling_given, told_given};
 ghost use Rattle.sarif_options.specs.declared.policy.Policy.{Policy};
 ghost use Rattle.sarif_policy.specs.declared.condition.GateCondition.{GateCondition};
-ghost use Rattle.sarif_reports.specs.JunitLaws.{occurrences};
-ghost use Rattle.sarif_reports.specs.PolicyReports.{document_of_policy};
-ghost use Rattle.sarif_shown.specs.PolicyLaws.{AreRuled, is_fail};
+ghost use Rattle.sarif_shown.specs.PolicyLaws.{AreRuled};
 ghost use Rattle.sarif_upkeep.specs.Renewed.{accepted_in};
 ghost use Rattle.sarif_laws_once.specs.Decided.{hits_without_copies, results_without_copies};
 ghost use Rattle.sarif_laws_once.specs.TakenOut.{AreWithoutCopies, counting_each};
@@ -35,18 +31,6 @@ pub fn findings_follow_the_policy_without_copies()
         → faults_of inputs ≡ [] → inputs.checks.once ≡ true → conditions_given inputs ≡ Some cs
         → AreRuled reporting.show cs (results_without_copies inputs cs)
         (told_given inputs (Some reporting)) }
-{}
-
-/// A report in JUnit XML of such a merge fails exactly if the conditions fail about the results that are not copies, so
-/// exactly if the gate fails.
-pub fn junit_fails_if_the_policy_does_without_copies()
-    ensures { (inputs : Inputs) (cs : List GateCondition) (reporting : Reporting) (log : Data)
-        → faults_of inputs ≡ [] → inputs.checks.once ≡ true → conditions_given inputs ≡ Some cs
-        → elements_in (codes "runs") log ≡ runs_counted inputs
-        → length (told_given inputs (Some reporting)) < 2 ^ 64
-        → nat_lt 0 (occurrences (codes "<failure ")
-        (document_of_policy (told_given inputs (Some reporting))))
-        ≡ is_fail (verdict_told (decided_facts cs (results_without_copies inputs cs))) }
 {}
 
 /// Accepting with a policy accepts the hits of its conditions among the results that are not copies, and no other
