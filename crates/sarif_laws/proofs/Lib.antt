@@ -12,6 +12,7 @@ pub mod FileAfter
 pub mod FromEnd
 pub mod Grouping
 pub mod HitsInside
+pub mod HitsLater
 pub mod HitsTold
 pub mod IgnoredLog
 pub mod Joined
@@ -20,6 +21,7 @@ pub mod KnownByConditions
 pub mod KnownRuns
 pub mod LaterResults
 pub mod Left
+pub mod LeftByConditions
 pub mod Limited
 pub mod LineFeeds
 pub mod Lists

@@ -19,7 +19,7 @@ use Rattle.sarif_merge.specs.MergedLog.{current_of}
 use Rattle.sarif_merge.specs.OwnResult.{IsResult, baseline_of, number_among_all, partner_at, run_at}
 use Rattle.sarif_merge.proofs.OwnResult.{faultless_runs, record_at, state_at, within_total}
 
-same_record : (x y : Record) → ◌≡◌ {A = Result Record Fault} (Ok x) (Ok y) → x ≡ y
+pub same_record : (x y : Record) → ◌≡◌ {A = Result Record Fault} (Ok x) (Ok y) → x ≡ y
 same_record x y is = cc
 
 -- a record of a current result, and its state, are at that place

@@ -50,7 +50,7 @@ module _ (inputs : Inputs) (none : faults_of inputs ≡ []) where
   before = baseline_runs inputs
 
   -- accepted inputs have a record for each result
-  records_given : HaveRecords now before
+  pub records_given : HaveRecords now before
   records_given = record {
     inputs_are_runs = objects_in (log_sources inputs);
     baselines_are_runs = objects_in (baseline_sources inputs);

@@ -6,6 +6,7 @@ pub mod Decided
 pub mod Hits
 pub mod Ignored
 pub mod KnownAgain
+pub mod LeftByPolicy
 pub mod Lines
 pub mod LookedAt
 pub mod NextMerge

@@ -142,6 +142,10 @@ module _ (checks : Checks) (file : File) (change : Option GatedChange) (now befo
       ∙ ap (map is_no_hit) (take-append_seam (map does cur) (map does (absent_results cs m)))
       ∙ not_hit cur
 
+  -- there is a mark for each record
+  pub hidden_long : length (others_among (length m.records) (ruling_in cs m)) ≡ length m.records
+  hidden_long = ap length hidden_is ∙ length-map cur (λ r. not (hit r)) ∙ sym (length-map cur does) ∙ sym as_many
+
   records_left : unmarked (others_among (length m.records) (ruling_in cs m)) m.records ≡ map (λ (r : Judged). r.found) (filter hit cur)
   records_left =
       ap (λ marks. unmarked marks m.records) hidden_is

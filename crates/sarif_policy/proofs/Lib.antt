@@ -1,5 +1,6 @@
 pub mod DecimalLoops
 pub mod DecimalOrder
+pub mod FiltersRead
 pub mod FromConditions
 pub mod FromFilters
 pub mod FromStates

@@ -15,7 +15,10 @@ mod read_filter;
 pub use condition::{GateCondition, GatePolicy, Minimum, Unrated};
 pub use decimal::Decimal;
 pub use fault::{FilterList, PolicyCause, PolicyFault, PolicyPlace};
-pub use laws::{a_decimal_is_the_number_of_its_text, a_filter_matches_as_its_conditions_are_met};
+pub use laws::{
+    a_decimal_is_the_number_of_its_text, a_filter_matches_as_its_conditions_are_met,
+    no_filter_has_a_max,
+};
 pub use limits::{LONGEST_NAME, MOST_CONDITIONS, MOST_FILTERS};
 pub use rating::{Rating, rating_of};
 pub use read_file::read_policy;
