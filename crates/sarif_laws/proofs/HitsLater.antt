@@ -430,7 +430,7 @@ module _ (inputs : Inputs) (text : List ℕ) (none : faults_of inputs ≡ []) (l
         let is = draft next later k seq there in
         let stays : was.suppressed ≡ true → is.suppressed ≡ true =
         λ s. sym (not_not is.suppressed)
-            ∙ ap not (sym (active_there next later k seq there) ∙ still (active_there inputs none k seq there ∙ ap not s)) in
+        ∙ ap not (sym (active_there next later k seq there) ∙ still (active_there inputs none k seq there ∙ ap not s)) in
         hit_there next later k seq there cs
         ∙ ap (λ b. not is.suppressed && b) if_active_same
         ∙ narrowed was.suppressed is.suppressed (hits_if_active inputs none k seq there cs) stays
