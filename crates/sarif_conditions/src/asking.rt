@@ -39,8 +39,9 @@ pub(crate) fn is_inside(diff: Option<Scope>, found: &JudgedResult) -> bool
     }
 }
 
-/// Returns whether the result has what the condition requires: `checked`, which says whether the condition checks it, is
-/// true, and the result is active and has a level and a rating that are required.
+/// Returns whether the result has what the condition requires: `checked`, which says whether the
+/// condition checks it, is true, and the result is active and has a level and a rating that are
+/// required.
 pub(crate) fn asks_if(checked: bool, condition: &GateCondition, found: &JudgedResult) -> bool
     ensures { result ≡ said.asks_if checked condition.now (judged_of found.now) }
 {

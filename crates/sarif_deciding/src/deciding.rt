@@ -41,7 +41,8 @@ fn judge_both<'r>(
 }
 
 /// Returns what the conditions of the policy decide about the results of a merge: the current ones in order, and then
-/// those of baselines that match no current result, as absent. It reads only what a condition requires.
+/// those of baselines that match no current result, as absent.
+/// It reads only what a condition requires.
 /// Returns `AllocError` if memory runs out.
 pub fn decide_merge<R: Threads + Sync>(
     rt: &R,

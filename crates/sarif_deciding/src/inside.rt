@@ -93,7 +93,8 @@ fn inside_by<R: Threads + Sync>(
     }
 }
 
-/// Returns which current results are inside of the change in this scope, if a condition requires it.
+/// Returns which current results are inside of the change in this scope,
+/// if a condition requires it.
 pub(crate) fn inside_in<R: Threads + Sync>(
     rt: &R,
     alloc: Global,

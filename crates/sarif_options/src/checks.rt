@@ -8,8 +8,8 @@ use sarif_evidence::MatchingVersion;
 use sarif_model::{Sequence, Text};
 use std::alloc::Global;
 
-/// What a merge requires of runs beyond the form of a log, what it compares of their results, and how it treats a
-/// change.
+/// What a merge requires of runs beyond the form of a log, what it compares of their results,
+/// and how it treats a change.
 #[derive(Debug, Drop, PartialEq, Eq)]
 pub struct Checks {
     /// Whether an input run whose analysis failed is rejected (SARIF 2.1.0, "executionSuccessful property").
